@@ -1,0 +1,9 @@
+-- Every and Listing hold the definitions, Examples the worked examples; the other files hold the laws.
+pub mod Every
+pub mod Listing
+pub mod Examples
+pub mod Sums
+pub mod Counts
+pub mod Order
+pub mod Inverse
+pub mod Ends
