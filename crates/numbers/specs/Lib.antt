@@ -1,0 +1,2 @@
+-- Step holds the one step between an index and a message.
+pub mod Step
