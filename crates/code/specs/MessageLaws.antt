@@ -49,6 +49,10 @@ pub length-is-largest : (q m x : ℕ) → wordsKeptOut < N q x m → Largest (N 
 unfolding messageLength
 length-is-largest q m x l = largest-power (q * m) _ (omega arith) (lt-of-le-of-lt (sub-le _ 2) (count-in-bits q m x))
 
+-- The words of the indices 1 to 2^s stand before the word of all top, whose index is N(m) - 1.
+pub carrying-before-tops : (q m x : ℕ) → wordsKeptOut < N q x m → 2 ^ messageLength q m x < N q x m - 1
+carrying-before-tops q m x l = let f = length-is-largest q m x l .fits in omega arith
+
 no-length : (q m x : ℕ) → N q x m ≤ wordsKeptOut → messageLength q m x ≡ 0
 unfolding messageLength
 no-length q m x l = rw (sub-eq-zero-of-le l) (no-power-of-0 (q * m))
