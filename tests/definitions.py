@@ -68,11 +68,11 @@ def claims():
         found = words(q, m, x)
         yield f"N {q} {x} {m} ≡ {len(found)}"
         yield f"countByRecursion {q} {x} {m} ≡ {len(found)}"
-        yield f"messageLength {q} {m} {x} ≡ {message_length(len(found))}"
+        yield f"messageLength {q} {x} {m} ≡ {message_length(len(found))}"
         for i in draw.sample(range(len(found)), min(3, len(found))):
             yield f"index {q} {x} {shown(found[i])} ≡ {i}"
             yield f"indexByWeights {q} {x} {shown(found[i])} ≡ {i}"
-            yield f"word {q} {m} {x} {i} ≡ {shown(found[i])}"
+            yield f"word {q} {x} {m} {i} ≡ {shown(found[i])}"
     for _ in range(150):
         q, x = draw.randrange(2, 5), draw.randrange(1, 4)
         cells = [draw.choice((q - 1, draw.randrange(q))) for _ in range(draw.randrange(1, 10))]

@@ -20,7 +20,7 @@ legal q x = patternFree (published q x)
 
 -- A legal word has m cells, each below q, and no forbidden pattern.
 abbrev pub LegalWord : ℕ → ℕ → ℕ → List ℕ → Type 0
-LegalWord q m x w = Word q (legal q x) m w
+LegalWord q x m w = Word q (legal q x) m w
 
 -- N(m): the number of legal words of length m, by listing them.
 unfoldable pub N : ℕ → ℕ → ℕ → ℕ
@@ -32,4 +32,4 @@ index q x w = indexIn q (legal q x) w
 
 -- The word of an index, the leftmost level settled first.
 unfoldable pub word : ℕ → ℕ → ℕ → ℕ → List ℕ
-word q m x i = wordOf q (legal q x) m i
+word q x m i = wordOf q (legal q x) m i

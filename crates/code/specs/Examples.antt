@@ -18,7 +18,7 @@ pub record MarkedExamples : Type 0 where
   pub five : index 4 1 (0 ∷ 1 ∷ 2 ∷ 3 ∷ 3 ∷ []) ≡ 108
   pub six : index 4 1 (1 ∷ 3 ∷ 0 ∷ 0 ∷ 1 ∷ []) ≡ 416
   pub eight-count : N 2 1 3 ≡ 7
-  pub eight-length : messageLength 2 3 1 ≡ 2
+  pub eight-length : messageLength 2 1 3 ≡ 2
   pub ten : legal 4 1 (3 ∷ 2 ∷ 3 ∷ []) ≡ false
   pub eleven-reach-1 : legal 4 1 (3 ∷ 2 ∷ 2 ∷ 3 ∷ []) ≡ true
   pub eleven-reach-2 : legal 4 2 (3 ∷ 2 ∷ 2 ∷ 3 ∷ []) ≡ false

@@ -10,45 +10,45 @@ use lib.ListN.{replicate, length-reverse}
 use borrow.Author.Tests.{le-ltb}
 use Rattle.patterns.specs.Stream.{filled, streamOf}
 use Rattle.patterns.specs.OccursLaws.{turned-free}
-use Rattle.patterns.specs.BridgeLaws.{top-run-free}
+use Rattle.patterns.specs.FreeLaws.{top-run-free}
 use Rattle.patterns.specs.StreamLaws.{stream-free}
 use Rattle.listing.specs.Every.{every, every-reverse}
 use Rattle.listing.specs.Listing.{before}
 use Rattle.listing.specs.Order.{index-keeps-order, index-below-count}
 use Rattle.listing.specs.Inverse.{exactly-one, index-has-word, word-keeps-order}
-use Rattle.listing.specs.Ends.{zeros-first, tops-last}
+use Rattle.listing.specs.Limits.{zeros-first, tops-last}
 use Rattle.code.specs.Code.{published, legal, LegalWord, N, index, word}
 
 -- For each i below N(m) there is exactly one legal word with i legal words before it, and settling the leftmost level first finds it.
-pub record OneWord (q m x i : ℕ) : Type 0 where
-  pub found : LegalWord q m x (word q m x i)
-  pub its-index : index q x (word q m x i) ≡ i
-  pub only : (w : List ℕ) → LegalWord q m x w → index q x w ≡ i → w ≡ word q m x i
+pub record OneWord (q x m i : ℕ) : Type 0 where
+  pub found : LegalWord q x m (word q x m i)
+  pub its-index : index q x (word q x m i) ≡ i
+  pub only : (w : List ℕ) → LegalWord q x m w → index q x w ≡ i → w ≡ word q x m i
 
-pub one-word-of-index : (q m x i : ℕ) → i < N q x m → OneWord q m x i
+pub one-word-of-index : (q x m i : ℕ) → i < N q x m → OneWord q x m i
 unfolding N index word
-one-word-of-index q m x i l =
+one-word-of-index q x m i l =
     let one = exactly-one q (legal q x) m i l in
     record { found = one .0 .word; its-index = one .0 .index; only = λ w r e. one .1 w (record { word = r; index = e }) }
 
 -- A legal word's index is below N(m).
-pub index-below-N : (q m x : ℕ) (w : List ℕ) → LegalWord q m x w → index q x w < N q x m
+pub index-below-N : (q x m : ℕ) (w : List ℕ) → LegalWord q x m w → index q x w < N q x m
 unfolding N index
-index-below-N q m x w r = index-below-count q (legal q x) m w r
+index-below-N q x m w r = index-below-count q (legal q x) m w r
 
 -- The word of a legal word's index is that word.
-pub word-of-index-of-word : (q m x : ℕ) (w : List ℕ) → LegalWord q m x w → word q m x (index q x w) ≡ w
+pub word-of-index-of-word : (q x m : ℕ) (w : List ℕ) → LegalWord q x m w → word q x m (index q x w) ≡ w
 unfolding index word
-word-of-index-of-word q m x w r = index-has-word q (legal q x) m w r
+word-of-index-of-word q x m w r = index-has-word q (legal q x) m w r
 
 -- The earlier word has the lower index, and the lower index the earlier word.
-pub index-in-order : (q m x : ℕ) (v w : List ℕ) → LegalWord q m x v → LegalWord q m x w → before v w ≡ true → index q x v < index q x w
+pub index-in-order : (q x m : ℕ) (v w : List ℕ) → LegalWord q x m v → LegalWord q x m w → before v w ≡ true → index q x v < index q x w
 unfolding index
-index-in-order q m x v w = index-keeps-order q (legal q x) m v w
+index-in-order q x m v w = index-keeps-order q (legal q x) m v w
 
-pub word-in-order : (q m x i j : ℕ) → i < j → j < N q x m → before (word q m x i) (word q m x j) ≡ true
+pub word-in-order : (q x m i j : ℕ) → i < j → j < N q x m → before (word q x m i) (word q x m j) ≡ true
 unfolding N word
-word-in-order q m x i j = word-keeps-order q (legal q x) m i j
+word-in-order q x m i j = word-keeps-order q (legal q x) m i j
 
 -- The middle set is without top, and 0 is not top.
 top-not-between : (q x : ℕ) → published q x .middle (published q x .top) ≡ false
@@ -58,25 +58,25 @@ zero-not-top : (q x : ℕ) → 1 < q → 0 < published q x .top
 zero-not-top q x l = omega arith
 
 -- The word of all 0 has index 0.
-pub zeros-index : (q m x : ℕ) → index q x (replicate m 0) ≡ 0
+pub zeros-index : (q x m : ℕ) → index q x (replicate m 0) ≡ 0
 unfolding index
-zeros-index q m x = zeros-first q (legal q x) m
+zeros-index q x m = zeros-first q (legal q x) m
 
 -- The word of all top is legal, and has index N(m) - 1.
-pub tops-legal : (q m x : ℕ) → legal q x (replicate m (q - 1)) ≡ true
+pub tops-legal : (q x m : ℕ) → legal q x (replicate m (q - 1)) ≡ true
 unfolding legal
-tops-legal q m x = top-run-free (published q x) (top-not-between q x) m
+tops-legal q x m = top-run-free (published q x) (top-not-between q x) m
 
-pub tops-index : (q m x : ℕ) → 0 < q → index q x (replicate m (q - 1)) ≡ N q x m - 1
+pub tops-index : (q x m : ℕ) → 0 < q → index q x (replicate m (q - 1)) ≡ N q x m - 1
 unfolding N index
-tops-index zero m x l = absurd (omega arith)
-tops-index (suc t) m x l =
-    let e = tops-last t (legal (suc t) x) m (rw sub-one at (tops-legal (suc t) m x)) in rw (sub-one (suc t)) (omega arith)
+tops-index zero x m l = absurd (omega arith)
+tops-index (suc t) x m l =
+    let e = tops-last t (legal (suc t) x) m (rw sub-one at (tops-legal (suc t) x m)) in rw (sub-one (suc t)) (omega arith)
 
 -- A legal word turned is a legal word.
-pub turned-legal : (q m x : ℕ) (w : List ℕ) → LegalWord q m x w → LegalWord q m x (reverse w)
+pub turned-legal : (q x m : ℕ) (w : List ℕ) → LegalWord q x m w → LegalWord q x m (reverse w)
 unfolding legal
-turned-legal q m x w r = record {
+turned-legal q x m w r = record {
   cells = length-reverse w ∙ r .cells;
   levelled = every-reverse _ w ∙ r .levelled;
   passes = turned-free (published q x) w ∙ r .passes;

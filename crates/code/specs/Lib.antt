@@ -6,6 +6,6 @@ pub mod Examples
 pub mod Stretches
 pub mod Theorem1
 pub mod Theorem2
-pub mod Bounds
+pub mod Sizes
 pub mod MessageLaws
 pub mod Laws

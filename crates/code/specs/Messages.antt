@@ -13,6 +13,6 @@ abbrev pub largestPower : ℕ → ℕ → ℕ
 largestPower zero n = 0
 largestPower (suc b) n = cond (leb (2 ^ suc b) n) (suc b) (largestPower b n)
 
--- The message length s: the largest whole number with 2^s at most N(m) - 2. It is below q m, since N(m) is at most q^m.
+-- The message length s: the largest whole number with 2^s at most N(m) - 2. It is at most q m, since N(m) is at most q^m.
 unfoldable pub messageLength : ℕ → ℕ → ℕ → ℕ
-messageLength q m x = largestPower (q * m) (N q x m - wordsKeptOut)
+messageLength q x m = largestPower (q * m) (N q x m - wordsKeptOut)

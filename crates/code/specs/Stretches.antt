@@ -13,7 +13,7 @@ use Rattle.patterns.specs.Walk.{walk, mayStand, topMayStand, guardAfter}
 use Rattle.patterns.specs.WalkLaws.{top-may-stand-fresh, walk-is-patternFree}
 use Rattle.listing.specs.Listing.{countOf, behind}
 use Rattle.listing.specs.Sums.{sum-const}
-use Rattle.listing.specs.Counts.{count-by-first, count-same, count-none}
+use Rattle.listing.specs.FirstCell.{count-by-first, count-same, count-none}
 use Rattle.listing.specs.Order.{count-nil}
 use Rattle.code.specs.Code.{belowTop, legal, N}
 

@@ -12,7 +12,7 @@ use borrow.Author.Tests.{leb-true, leb-false, le-leb, eqb-true, eqb-false}
 use Rattle.patterns.specs.Walk.{walk, topMayStand}
 use Rattle.listing.specs.Listing.{indexIn, allBelow}
 use Rattle.listing.specs.Sums.{sum-const}
-use Rattle.listing.specs.Counts.{index-by-first, index-first}
+use Rattle.listing.specs.FirstCell.{index-by-first, index-first}
 use Rattle.listing.specs.Order.{nothing-before-nil, first-below, rest-below}
 use Rattle.code.specs.Code.{belowTop, LegalWord, index}
 use Rattle.code.specs.Formulas.{oneFurther, distanceBack, guardOf, weight, weightedFrom, indexByWeights}
@@ -88,8 +88,8 @@ module _ (t x : ℕ) where
       weighted-cons left a w ∙ ap₂ (λ (u v : ℕ). u + v) (sym low) rest ∙ sym (index-by-first (suc t) _ a w l)
 
 -- Theorem 2: for a legal word the weighted sum is the index by counting.
-pub theorem-2 : (q m x : ℕ) (w : List ℕ) → 0 < q → LegalWord q m x w → indexByWeights q x w ≡ index q x w
+pub theorem-2 : (q x m : ℕ) (w : List ℕ) → 0 < q → LegalWord q x m w → indexByWeights q x w ≡ index q x w
 unfolding index
-theorem-2 zero m x w l r = absurd (omega arith)
-theorem-2 (suc t) m x w l r =
+theorem-2 zero x m w l r = absurd (omega arith)
+theorem-2 (suc t) x m w l r =
     weights-index t x [] w (r .levelled) (legal-walks t x w ∙ r .passes) ∙ ap (λ (p : List ℕ → Bool). indexIn (suc t) p w) (fun-ext (legal-walks t x))

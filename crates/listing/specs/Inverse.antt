@@ -10,8 +10,8 @@ use lib.ListN.{length}
 use borrow.Author.Tests.{ltb-true, ltb-false, lt-ltb}
 use Rattle.listing.specs.Listing.{Word, Settled, settle, levelsFrom, levels, countOf, listed, allWords, before, indexIn, behind, wordOf, keepIf}
 use Rattle.listing.specs.Sums.{sumBelow, sumOver, sum-levels}
-use Rattle.listing.specs.Counts.{count-by-first, index-by-first, index-first}
-use Rattle.listing.specs.Order.{index-below-count, order-keeps-index, index-injective, nothing-before-nil}
+use Rattle.listing.specs.FirstCell.{count-by-first, index-by-first, index-first}
+use Rattle.listing.specs.Order.{index-below-count, lower-index-before, index-injective, nothing-before-nil}
 
 -- A level is settled right: all lower levels together take the indices below, and what is left of the index is below its own count.
 record Right (count : ℕ → ℕ) (c n i : ℕ) (s : Settled) : Type 0 where
@@ -87,4 +87,4 @@ pub word-keeps-order : (q : ℕ) (p : List ℕ → Bool) (m i j : ℕ) → i < j
 word-keeps-order q p m i j l h =
     let f = word-has-index q p m i (omega arith) in
     let g = word-has-index q p m j h in
-    order-keeps-index q p m _ _ (f .word) (g .word) (rw (f .index, g .index) l)
+    lower-index-before q p m _ _ (f .word) (g .word) (rw (f .index, g .index) l)

@@ -3,7 +3,7 @@ pub mod Every
 pub mod Listing
 pub mod Examples
 pub mod Sums
-pub mod Counts
+pub mod FirstCell
 pub mod Order
 pub mod Inverse
-pub mod Ends
+pub mod Limits

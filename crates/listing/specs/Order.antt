@@ -11,7 +11,7 @@ use lib.ListN.{length}
 use borrow.Author.Tests.{ltb-true, ltb-false, eqb-true, eqb-false, lt-ltb, le-ltb, ne-eqb, eq-eqb}
 use Rattle.listing.specs.Listing.{Word, countOf, listed, allWords, before, indexIn, behind, allBelow}
 use Rattle.listing.specs.Sums.{sumBelow, sum-mono}
-use Rattle.listing.specs.Counts.{count-by-first, before-cons, index-by-first, index-first}
+use Rattle.listing.specs.FirstCell.{count-by-first, before-cons, index-by-first, index-first}
 
 -- One word has no cells, where it passes.
 pub count-nil : (q : ℕ) (p : List ℕ → Bool) → p [] ≡ true → countOf q p 0 ≡ 1
@@ -118,9 +118,9 @@ pub index-keeps-order : (q : ℕ) (p : List ℕ → Bool) (m : ℕ) (v w : List 
 index-keeps-order q p m v w rv rw′ t = before-lower q p v w (rv .cells ∙ sym (rw′ .cells)) (rv .levelled) (rw′ .levelled) (rv .passes) t
 
 -- A word with the lower index stands before the other.
-pub order-keeps-index : (q : ℕ) (p : List ℕ → Bool) (m : ℕ) (v w : List ℕ) → Word q p m v → Word q p m w
+pub lower-index-before : (q : ℕ) (p : List ℕ → Bool) (m : ℕ) (v w : List ℕ) → Word q p m v → Word q p m w
     → indexIn q p v < indexIn q p w → before v w ≡ true
-order-keeps-index q p m v w rv rw′ l = go (either-before v w (rv .cells ∙ sym (rw′ .cells)))
+lower-index-before q p m v w rv rw′ l = go (either-before v w (rv .cells ∙ sym (rw′ .cells)))
   where
     go : (before v w ≡ true) ⊎ ((v ≡ w) ⊎ (before w v ≡ true)) → before v w ≡ true
     go (inl t) = t

@@ -18,6 +18,7 @@ pub record Examples : Type 0 where
   pub walk-side-by-side : walk fourLevels 0 (3 ∷ 3 ∷ []) ≡ true
   pub walk-two-between : walk fourLevels 0 (3 ∷ 1 ∷ 2 ∷ 3 ∷ []) ≡ false
   pub walk-three-between : walk fourLevels 0 (3 ∷ 1 ∷ 2 ∷ 0 ∷ 3 ∷ []) ≡ true
+  pub bridged-free : patternFree fourLevels (streamOf fourLevels ((0 ∷ 3 ∷ []) ∷ (3 ∷ 1 ∷ []) ∷ (2 ∷ 3 ∷ []) ∷ [])) ≡ true
   pub between-tops : streamOf fourLevels ((0 ∷ 3 ∷ []) ∷ (3 ∷ 1 ∷ []) ∷ []) ≡ 0 ∷ 3 ∷ 3 ∷ 3 ∷ 3 ∷ 1 ∷ []
   pub beside-one-top : streamOf fourLevels ((0 ∷ 3 ∷ []) ∷ (2 ∷ 3 ∷ []) ∷ []) ≡ 0 ∷ 3 ∷ 0 ∷ 0 ∷ 2 ∷ 3 ∷ []
   pub joins : joined fourLevels (0 ∷ 3 ∷ []) (3 ∷ 1 ∷ []) ≡ 0 ∷ 3 ∷ 3 ∷ 3 ∷ 3 ∷ 1 ∷ []
@@ -33,6 +34,7 @@ examples = record {
   walk-side-by-side = refl;
   walk-two-between = refl;
   walk-three-between = refl;
+  bridged-free = refl;
   between-tops = refl;
   beside-one-top = refl;
   joins = refl;

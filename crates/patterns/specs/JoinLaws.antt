@@ -1,11 +1,18 @@
 -- Joined streams: an empty one adds nothing, they join in either grouping, and they turn.
 use mathlib.Core.Path.{_≡_, refl, sym, ap, _∙_}
-use mathlib.Core.Bool.{true, false≢true}
+use mathlib.Core.Bool.{true, false≢true, and-comm}
 use mathlib.Core.List.{List, [], _∷_, _++_, reverse, append-assoc, reverse-append, reverse-cons, reverse-reverse}
-use Prim.Native.Nat.{ℕ}
+use Prim.Native.Nat.{ℕ, zero, suc}
+use native.Mathlib.Numerals.{add-one}
+use lib.Dec.{eqb}
+use lib.ListN.{replicate, replicate-append-replicate}
 use Rattle.patterns.specs.Pattern.{Patterns}
 use Rattle.patterns.specs.Stream.{bridge, firstCell, lastCell, filled, joined, turned}
-use Rattle.patterns.specs.BridgeLaws.{bridge-either-way, bridge-turned}
+
+-- One element many times is the same turned.
+reverse-replicate : {A : Type 0} (n : ℕ) (a : A) → reverse (replicate n a) ≡ replicate n a
+reverse-replicate zero a = refl
+reverse-replicate (suc n) a = rw (reverse-cons a (replicate n a), reverse-replicate n a, replicate-append-replicate n 1 a, add-one)
 
 last-append : (a : List ℕ) (d : ℕ) (b : List ℕ) → lastCell (a ++ (d ∷ b)) ≡ lastCell (d ∷ b)
 last-append [] d b = refl
@@ -29,6 +36,16 @@ filled-turned [] = refl
 filled-turned (c ∷ a) = rw (reverse-cons c a) (filled-append (reverse a) c [])
 
 module _ (S : Patterns) where
+  -- A bridge is the same from either side.
+  pub bridge-either-way : (a b : ℕ) → bridge S a b ≡ bridge S b a
+  unfolding bridge
+  bridge-either-way a b = rw (and-comm (eqb a (S .top)) (eqb b (S .top)))
+
+  -- A turned bridge is the same bridge.
+  pub bridge-turned : (a b : ℕ) → reverse (bridge S a b) ≡ bridge S a b
+  unfolding bridge
+  bridge-turned a b = simp reverse-replicate
+
   -- An empty stream before a stream adds nothing.
   pub joined-empty-left : (b : List ℕ) → joined S [] b ≡ b
   unfolding joined
@@ -67,4 +84,4 @@ module _ (S : Patterns) where
   turned-joined (c ∷ a) (d ∷ b) =
       let over = bridge S (lastCell (c ∷ a)) d in
       let other = joined-filled (reverse (d ∷ b)) (reverse (c ∷ a)) (filled-turned (d ∷ b)) (filled-turned (c ∷ a)) in
-      rw (other, last-turned (d ∷ b), first-turned (c ∷ a), bridge-either-way S d (lastCell (c ∷ a)), reverse-append (c ∷ a) (over ++ (d ∷ b)), reverse-append over (d ∷ b), bridge-turned S, append-assoc)
+      rw (other, last-turned (d ∷ b), first-turned (c ∷ a), bridge-either-way d (lastCell (c ∷ a)), reverse-append (c ∷ a) (over ++ (d ∷ b)), reverse-append over (d ∷ b), bridge-turned, append-assoc)

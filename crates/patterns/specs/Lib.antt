@@ -5,6 +5,6 @@ pub mod Stream
 pub mod Examples
 pub mod WalkLaws
 pub mod OccursLaws
-pub mod BridgeLaws
+pub mod FreeLaws
 pub mod JoinLaws
 pub mod StreamLaws

@@ -20,7 +20,7 @@ lastCell [] = 0
 lastCell (c ∷ []) = c
 lastCell (c ∷ d ∷ w) = lastCell (d ∷ w)
 
--- Some cells are not none; they are m.
+-- A word with cells, and a word of m cells.
 abbrev pub filled : List ℕ → Bool
 filled [] = false
 filled (c ∷ w) = true

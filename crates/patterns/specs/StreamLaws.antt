@@ -11,7 +11,7 @@ use borrow.Author.Tests.{eqb-true}
 use Rattle.listing.specs.Every.{every, every-append, every-reverse}
 use Rattle.patterns.specs.Pattern.{Patterns, patternFree}
 use Rattle.patterns.specs.Stream.{bridge, filled, hasLength, streamOf, joined, turned}
-use Rattle.patterns.specs.BridgeLaws.{joined-free}
+use Rattle.patterns.specs.FreeLaws.{joined-free}
 use Rattle.patterns.specs.JoinLaws.{filled-turned, joined-assoc, turned-joined}
 
 every-filled-turned : (words : List (List ℕ)) → every filled (map reverse words) ≡ every filled words

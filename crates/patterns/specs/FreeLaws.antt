@@ -1,4 +1,4 @@
--- Bridges: streams joined by one are pattern-free, a run of tops is, and a bridge is the same turned.
+-- What is pattern-free: streams that are joined over a bridge, and a run of tops.
 use mathlib.Core.Path.{_≡_, refl, sym, _∙_}
 use mathlib.Core.Bool.{Bool, true, false, cond, and-comm}
 use mathlib.Core.List.{List, [], _∷_, _++_, reverse, reverse-cons, append-nil}
@@ -12,11 +12,6 @@ use Rattle.patterns.specs.Pattern.{Patterns, patternFree}
 use Rattle.patterns.specs.Walk.{guardAfter, walk, guardBehind}
 use Rattle.patterns.specs.Stream.{bridge, lastCell, joined}
 use Rattle.patterns.specs.WalkLaws.{walk-is-patternFree, fresh-walk-is-patternFree, walk-append, top-may-stand-fresh}
-
--- One element many times is the same turned.
-reverse-replicate : {A : Type 0} (n : ℕ) (a : A) → reverse (replicate n a) ≡ replicate n a
-reverse-replicate zero a = refl
-reverse-replicate (suc n) a = rw (reverse-cons a (replicate n a), reverse-replicate n a, replicate-append-replicate n 1 a, add-one)
 
 module _ (S : Patterns) where
   walk-tops : (n : ℕ) (w : List ℕ) → walk S (suc (S .reach)) (replicate n (S .top) ++ w) ≡ walk S (suc (S .reach)) w
@@ -98,13 +93,3 @@ module _ (S : Patterns) where
   unfolding walk patternFree
   top-run-free apart zero = refl
   top-run-free apart (suc m) = sym (fresh-walk-is-patternFree S apart (replicate m (S .top))) ∙ rw (← (append-nil (replicate m (S .top)))) (walk-tops m [])
-
-  -- A bridge is the same from either side.
-  pub bridge-either-way : (a b : ℕ) → bridge S a b ≡ bridge S b a
-  unfolding bridge
-  bridge-either-way a b = rw (and-comm (eqb a (S .top)) (eqb b (S .top)))
-
-  -- A turned bridge is the same bridge.
-  pub bridge-turned : (a b : ℕ) → reverse (bridge S a b) ≡ bridge S a b
-  unfolding bridge
-  bridge-turned a b = simp reverse-replicate

@@ -10,7 +10,7 @@ use lib.Dec.{eqb}
 use borrow.Author.Tests.{le-ltb}
 use Rattle.listing.specs.Listing.{countOf, listed, allWords, before, indexIn, behind, keepIf}
 use Rattle.listing.specs.Sums.{sum-bound}
-use Rattle.listing.specs.Counts.{count-by-first, index-by-first, index-first, before-cons}
+use Rattle.listing.specs.FirstCell.{count-by-first, index-by-first, index-first, before-cons}
 use Rattle.listing.specs.Order.{before-nil, nothing-before-nil, count-nil}
 
 nothing-before-zeros : (m : ℕ) (v : List ℕ) → before v (replicate m 0) ≡ false
