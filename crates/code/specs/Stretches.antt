@@ -90,6 +90,10 @@ pub following-legal : (t x m : ℕ) → following t x 0 m ≡ N (suc t) x m
 unfolding following N
 following-legal t x m = count-same (suc t) _ _ m (legal-walks t x)
 
+-- N(m + 1) without a difference: the words that begin below top, and those that begin with top.
+pub count-splits : (t x m : ℕ) → N (suc t) x (suc m) ≡ t * N (suc t) x m + following t x (suc x) m
+count-splits t x m = rw (← following-legal t x (suc m), ← following-legal t x m) (following-open t x m)
+
 -- Nowhere may more words follow than in an open stretch.
 pub following-most : (t x g m : ℕ) → following t x g m ≤ following t x 0 m
 following-most t x g zero = rw (following-none t x g, following-none t x 0) (le-refl 1)

@@ -11,7 +11,7 @@ use lib.ListN.{getD}
 use borrow.Author.Tests.{leb-true}
 use Rattle.code.specs.Code.{N}
 use Rattle.code.specs.Formulas.{lastTerm, nextCount, withNext, countsDownFrom, countByRecursion}
-use Rattle.code.specs.Stretches.{following, following-none, following-open, following-fresh, following-weight, following-legal, scaled}
+use Rattle.code.specs.Stretches.{following, following-none, following-open, following-fresh, following-weight, following-legal, count-splits, scaled}
 
 -- N(0) is 1.
 pub count-of-no-cells : (q x : ℕ) → 0 < q → N q x 0 ≡ 1
@@ -33,16 +33,16 @@ last-term t x m =
 pub theorem-1 : (q x m : ℕ) → 0 < q → N q x (suc (suc m)) ≡ nextCount q x (suc (suc m)) (N q x (suc m)) (N q x m) (N q x (m - x))
 theorem-1 zero x m l = absurd (omega arith)
 theorem-1 (suc t) x m l =
-    let a = rw (following-legal t x (suc (suc m)), following-legal t x (suc m)) at (following-open t x (suc m)) in
+    let a = count-splits t x (suc m) in
     let b = following-fresh t x m in
-    let c = rw (following-legal t x (suc m), following-legal t x m) at (following-open t x m) in
+    let c = count-splits t x m in
     rw (last-term t x m, sub-one, suc-mul) (omega arith)
 
 -- The difference in theorem 1 does not go below 0.
 pub difference-not-below-0 : (q x m : ℕ) → 0 < q → (q - 1) * N q x m ≤ q * N q x (suc m)
 difference-not-below-0 zero x m l = absurd (omega arith)
 difference-not-below-0 (suc t) x m l =
-    let c = rw (following-legal t x (suc m), following-legal t x m) at (following-open t x m) in
+    let c = count-splits t x m in
     rw (sub-one, suc-mul) (omega arith)
 
 -- f m, f (m - 1), .., f 0.

@@ -23,9 +23,6 @@ abbrev guardAt : ℕ → ℕ → ℕ
 guardAt x zero = 0
 guardAt x (suc k) = suc x - k
 
-guard-at-top : (x : ℕ) → guardAt x 1 ≡ suc x
-guard-at-top x = sub-zero (suc x)
-
 guard-one-further : (x k : ℕ) → guardAt x (oneFurther k) ≡ guardAt x k - 1
 guard-one-further x zero = refl
 guard-one-further x (suc k) = omega arith

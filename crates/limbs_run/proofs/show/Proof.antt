@@ -1,6 +1,5 @@
 -- `limbs_run::show` ends at the last limb.
 use Prim.Native.Nat.{_≤_, _-_}
-use mathlib.Core.Path.{_≡_}
 use lib.ListN.{length}
 use borrow.Author.Needs.{needs}
 use Rattle.limbs_run.proofs.show.Statement.{statement}
