@@ -27,7 +27,9 @@ count-of-one-cell (suc t) x l =
 -- T is the words that follow a top and a first cell below it.
 last-term : (t x m : ℕ) → lastTerm (suc t) x (suc (suc m)) (N (suc t) x (m - x)) ≡ t * following t x x m
 last-term t x m =
-    rw (sub-one, add-two, leb·suc-suc, leb·suc-suc, sub-one, add-one, ← following-legal t x (m - x), pow-succ' t x, pow-succ' t m, mul-assoc) (sym (ap (λ (n : ℕ). t * n) (following-weight t x x m (le-refl x)) ∙ scaled t _ _ (leb x m)))
+    let weighed = ap (λ (n : ℕ). t * n) (following-weight t x x m (le-refl x)) ∙ scaled t _ _ (leb x m) in
+    rw (sub-one, add-two, leb·suc-suc, leb·suc-suc, sub-one, add-one, ← following-legal t x (m - x), pow-succ' t x, pow-succ' t m, mul-assoc)
+    (sym weighed)
 
 -- Theorem 1 as printed, for counts by listing.
 pub theorem-1 : (q x m : ℕ) → 0 < q → N q x (suc (suc m)) ≡ nextCount q x (suc (suc m)) (N q x (suc m)) (N q x m) (N q x (m - x))
@@ -70,8 +72,9 @@ last-term-same q x m n k h = go (leb (x + 2) m) refl
 with-next : (q x m : ℕ) → 0 < q → withNext q x m (downFrom (N q x) m) ≡ downFrom (N q x) (suc m)
 with-next q x zero l = rw (count-of-one-cell q x l)
 with-next q x (suc m) l =
-    ap (λ (n : ℕ). n ∷ downFrom (N q x) (suc m))
-    (rw (down-first (N q x) m, last-term-same q x (suc (suc m)) (getD (downFrom (N q x) (suc m)) (x + 1) 0) (N q x (m - x)) (λ h. rw add-one (down-at (N q x) m x (omega arith)))) (sym (theorem-1 q x m l)))
+    let far = getD (downFrom (N q x) (suc m)) (x + 1) 0 in
+    let same = last-term-same q x (suc (suc m)) far (N q x (m - x)) (λ h. rw add-one (down-at (N q x) m x (omega arith))) in
+    ap (λ (n : ℕ). n ∷ downFrom (N q x) (suc m)) (rw (down-first (N q x) m, same) (sym (theorem-1 q x m l)))
 
 counts-listed : (q x m : ℕ) → 0 < q → countsDownFrom q x m ≡ downFrom (N q x) m
 unfolding countsDownFrom
