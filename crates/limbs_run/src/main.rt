@@ -51,12 +51,14 @@ fn show(answer: u64, limbs: &[u64]) {
     io::write_all(1, &LINE);
 }
 
+// A count as a number to print.
 fn wide(n: usize) -> u64
     ensures { λ r. ⌜ r ≡ n ⌝ }
 {
     n as u64
 }
 
+// An order as a number to print.
 fn order_number(order: Order) -> u64 {
     match order {
         Order::Less => 0,
@@ -111,6 +113,7 @@ fn used(rows: [u64; 14], at: usize, n: usize)
     show(wide(limbs::limbs_used(&rows, at, n)), &rows);
 }
 
+// Every function once, on limbs that are drawn from `state`.
 fn tried(state: u64, n: usize, at: usize)
     requires { ⌜ (n ≤ 10) × (at ≤ 4) ⌝ }
 {

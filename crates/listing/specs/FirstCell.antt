@@ -19,11 +19,11 @@ passing-append : (p : List ℕ → Bool) (xs ys : List (List ℕ)) → passing p
 passing-append p [] ys = refl
 passing-append p (v ∷ xs) ys = ap (keepIf (p v) v) (passing-append p xs ys) ∙ keep-append (p v) v (passing p xs) (passing p ys)
 
--- How many of the words that begin with c pass p.
 keep-first : (b : Bool) (v w : List ℕ) (xs ys : List (List ℕ)) → length xs ≡ length ys → length (keepIf b v xs) ≡ length (keepIf b w ys)
 keep-first true v w xs ys e = ap suc e
 keep-first false v w xs ys e = e
 
+-- How many of the words that begin with c pass p.
 count-first : (p : List ℕ → Bool) (c : ℕ) (words : List (List ℕ)) → length (passing p (map (λ v. c ∷ v) words)) ≡ length (passing (behind c p) words)
 count-first p c [] = refl
 count-first p c (v ∷ words) = keep-first (p (c ∷ v)) (c ∷ v) v _ _ (count-first p c words)
@@ -39,11 +39,11 @@ pub count-by-first : (q : ℕ) (p : List ℕ → Bool) (m : ℕ) → countOf q p
 unfolding countOf listed allWords
 count-by-first q p m = count-each p (levels q) (allWords q m) ∙ sum-levels _ q
 
--- Passing one test after another is passing both.
 keep-both : (a b : Bool) (v : List ℕ) (r : List ℕ → Bool) (words : List (List ℕ)) → r v ≡ b → passing r (keepIf a v words) ≡ keepIf (a && b) v (passing r words)
 keep-both true b v r words e = rw e
 keep-both false b v r words e = refl
 
+-- Passing one test after another is passing both.
 passing-both : (p r : List ℕ → Bool) (words : List (List ℕ)) → passing r (passing p words) ≡ passing (λ v. p v && r v) words
 passing-both p r [] = refl
 passing-both p r (v ∷ words) = keep-both (p v) (r v) v r (passing p words) refl ∙ ap (keepIf (p v && r v) v) (passing-both p r words)
@@ -76,15 +76,15 @@ module _ (q : ℕ) (p : List ℕ → Bool) (a : ℕ) (w : List ℕ) where
   abbrev firstIs : ℕ → ℕ
   firstIs c = countOf q (behind c (λ v. p v && before v (a ∷ w))) (length w)
 
-  first-below : (c : ℕ) → c < a → firstIs c ≡ countOf q (behind c p) (length w)
-  first-below c l = count-same q _ _ _ (λ v. rw (before-cons, lt-ltb c a l) (and-true _))
+  lower-first : (c : ℕ) → c < a → firstIs c ≡ countOf q (behind c p) (length w)
+  lower-first c l = count-same q _ _ _ (λ v. rw (before-cons, lt-ltb c a l) (and-true _))
 
-  first-above : (c : ℕ) → a < c → firstIs c ≡ 0
-  first-above c l =
+  higher-first : (c : ℕ) → a < c → firstIs c ≡ 0
+  higher-first c l =
       count-same q _ (λ v. false) _ (λ v. rw (before-cons, le-ltb c a (omega arith), ne-eqb c a (omega arith)) (and-false (p (c ∷ v)))) ∙ count-none q _
 
-  first-same : firstIs a ≡ indexIn q (behind a p) w
-  first-same =
+  same-first : firstIs a ≡ indexIn q (behind a p) w
+  same-first =
       count-same q _ (λ v. behind a p v && before v w) _ (λ v. rw (before-cons, le-ltb a a (le-refl a), eq-eqb a a refl) refl)
       ∙ sym (index-counts q (behind a p) w)
 
@@ -92,8 +92,8 @@ module _ (q : ℕ) (p : List ℕ → Bool) (a : ℕ) (w : List ℕ) where
 pub index-by-first : (q : ℕ) (p : List ℕ → Bool) (a : ℕ) (w : List ℕ) → a < q
     → indexIn q p (a ∷ w) ≡ sumBelow (λ c. countOf q (behind c p) (length w)) a + indexIn q (behind a p) w
 index-by-first q p a w l =
-    index-counts q p (a ∷ w) ∙ count-by-first q _ (length w) ∙ sum-ends (firstIs q p a w) a q l (first-above q p a w)
-    ∙ ap₂ (λ (x y : ℕ). x + y) (sum-same _ _ a (first-below q p a w)) (first-same q p a w)
+    index-counts q p (a ∷ w) ∙ count-by-first q _ (length w) ∙ sum-ends (firstIs q p a w) a q l (higher-first q p a w)
+    ∙ ap₂ (λ (x y : ℕ). x + y) (sum-same _ _ a (lower-first q p a w)) (same-first q p a w)
 
 -- A word that nothing stands before has index 0.
 pub index-first : (q : ℕ) (p : List ℕ → Bool) (w : List ℕ) → ((v : List ℕ) → before v w ≡ false) → indexIn q p w ≡ 0
