@@ -1,0 +1,2 @@
+pub mod Catalogue
+pub mod Rating

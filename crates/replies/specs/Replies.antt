@@ -1,0 +1,70 @@
+-- Replies: the lowest number that applies to the whole input, with its first place; and what a call that writes leaves.
+-- The numbers are those of document 01.
+use mathlib.Core.Bool.{Bool, true, false, cond, _||_}
+use mathlib.Core.List.{List, _++_}
+use Prim.Native.Nat.{ℕ, zero, suc}
+use lib.Dec.{ltb, eqb}
+use lib.ListN.{length, drop}
+use Rattle.replies.specs.declared.Reply.{Reply}
+use Rattle.replies.specs.declared.Profile.{Profile}
+use Rattle.replies.specs.declared.Written.{Written}
+
+-- Done: number 0 at place 0.
+abbrev pub done : Reply
+done = record { number = 0; place = 0 }
+
+abbrev pub isDone : Reply → Bool
+isDone r = eqb (r .number) 0
+
+-- Refused with a number at a place.
+abbrev pub refused : ℕ → ℕ → Reply
+refused number place = record { number = number; place = place }
+
+-- Refused at place 0 where a test holds.
+abbrev pub refusedIf : Bool → ℕ → Reply
+refusedIf test number = cond test (refused number 0) done
+
+-- Refused at the first of n places, from `place` on, at which a test holds.
+abbrev pub refusedFrom : ℕ → (ℕ → Bool) → ℕ → ℕ → Reply
+refusedFrom place test zero number = done
+refusedFrom place test (suc n) number = cond (test place) (refused number place) (refusedFrom (suc place) test n number)
+
+-- Refused at the first of the places 0, 1, .., n - 1 at which a test holds.
+unfoldable pub refusedAtFirst : (ℕ → Bool) → ℕ → ℕ → Reply
+refusedAtFirst test n number = refusedFrom 0 test n number
+
+-- Two tests in the order of their numbers: the first that refuses decides.
+unfoldable pub orElse : Reply → Reply → Reply
+orElse a b = cond (isDone a) b a
+
+-- Refused where n is not from low to high.
+unfoldable pub outsideRefusal : ℕ → ℕ → ℕ → ℕ → Reply
+outsideRefusal low high n number = refusedIf (ltb n low || ltb high n) number
+
+-- 1, 2, 3: q, m, x outside its range.
+abbrev pub levelsRefusal : ℕ → Reply
+levelsRefusal q = outsideRefusal 2 32 q 1
+
+abbrev pub lengthRefusal : ℕ → Reply
+lengthRefusal m = outsideRefusal 1 128 m 2
+
+abbrev pub reachRefusal : ℕ → Reply
+reachRefusal x = outsideRefusal 1 8 x 3
+
+unfoldable pub profileRefusal : Profile → Reply
+profileRefusal p = orElse (levelsRefusal (p .q)) (orElse (lengthRefusal (p .m)) (reachRefusal (p .x)))
+
+-- 9: lent output too short.
+unfoldable pub roomRefusal : ℕ → ℕ → Reply
+roomRefusal needed lent = refusedIf (ltb lent needed) 9
+
+-- The whole outcome of a call that writes: its answer, and the lent list afterwards.
+pub record Outcome : Type 0 where
+  pub answer : Written
+  pub lent : List ℕ
+
+-- A refusal writes to no lent buffer and counts 0. Done writes exactly the content from the front and counts it.
+unfoldable pub writing : Reply → List ℕ → List ℕ → Outcome
+writing refusal content lent =
+    cond (isDone refusal) (record { answer = record { reply = done; count = length content }; lent = content ++ drop (length content) lent })
+    (record { answer = record { reply = refusal; count = 0 }; lent = lent })

@@ -1,0 +1,129 @@
+-- Laws of replies: which of two tests decides, where a profile that is not refused lies, and the first place at which a test holds.
+use mathlib.Core.Path.{_≡_, refl, _∙_, sym, ap}
+use mathlib.Core.Bool.{Bool, true, false, cond, _||_, true≢false, or-true}
+use mathlib.Core.Logic.{⊎-elim}
+use Prim.Native.Nat.{ℕ, zero, suc, _+_, _≤_, _<_}
+use native.Mathlib.Nat.{eq-or-lt-of-le}
+use native.Mathlib.Omega.{arith}
+use lib.Dec.{ltb, eqb}
+use borrow.Author.Tests.{ltb-true, ltb-false, lt-ltb, le-ltb, eqb-true, eq-eqb, ne-eqb}
+use Rattle.replies.specs.declared.Reply.{Reply}
+use Rattle.replies.specs.declared.Profile.{Profile}
+use Rattle.replies.specs.Replies.{done, isDone, refused, refusedIf, refusedFrom, refusedAtFirst, orElse, outsideRefusal, profileRefusal, roomRefusal}
+
+-- A first reply that refuses decides; one that is done leaves it to the second.
+pub decides : (r a b : Reply) → r ≡ a → (r .number ≡ 0 → ⊥) → r ≡ orElse a b
+unfolding orElse
+decides r a b e n = rw (← e, ne-eqb (r .number) 0 n)
+
+pub leaves : (r s a b : Reply) → r ≡ a → r .number ≡ 0 → s ≡ b → s ≡ orElse a b
+unfolding orElse
+leaves r s a b e z f = rw (← e, eq-eqb (r .number) 0 z) f
+
+-- Where both together are done, each is.
+pub record BothDone (a b : Reply) : Type 0 where
+  pub first : a .number ≡ 0
+  pub second : b .number ≡ 0
+
+pub both-done : (a b : Reply) → orElse a b .number ≡ 0 → BothDone a b
+unfolding orElse
+both-done a b = go (isDone a) refl
+  where
+    go : (t : Bool) → isDone a ≡ t → cond t b a .number ≡ 0 → BothDone a b
+    go true s e = record { first = eqb-true (a .number) 0 s; second = e }
+    go false s e = absurd (true≢false (sym (eq-eqb (a .number) 0 e) ∙ s))
+
+-- Refused exactly outside low to high.
+pub too-low : (low high n number : ℕ) → n < low → outsideRefusal low high n number ≡ refused number 0
+unfolding outsideRefusal
+too-low low high n number l = rw (lt-ltb n low l)
+
+pub too-high : (low high n number : ℕ) → high < n → outsideRefusal low high n number ≡ refused number 0
+unfolding outsideRefusal
+too-high low high n number l = rw (lt-ltb high n l, or-true)
+
+pub in-between : (low high n number : ℕ) → low ≤ n → n ≤ high → outsideRefusal low high n number ≡ done
+unfolding outsideRefusal
+in-between low high n number l h = rw (le-ltb n low l, le-ltb high n h)
+
+pub record Between (low high n : ℕ) : Type 0 where
+  pub least : low ≤ n
+  pub most : n ≤ high
+
+pub not-refused : (low high n number : ℕ) → outsideRefusal low high n (suc number) .number ≡ 0 → Between low high n
+unfolding outsideRefusal
+not-refused low high n number = go (ltb n low) (ltb high n) refl refl
+  where
+    go : (a b : Bool) → ltb n low ≡ a → ltb high n ≡ b → refusedIf (a || b) (suc number) .number ≡ 0 → Between low high n
+    go false false s t e = record { least = ltb-false n low s; most = ltb-false high n t }
+    go true b s t e = absurd (omega arith)
+    go false true s t e = absurd (omega arith)
+
+-- A profile that is not refused lies in the range of document 01.
+pub record InRange (p : Profile) : Type 0 where
+  pub levels : Between 2 32 (p .q)
+  pub length : Between 1 128 (p .m)
+  pub reach : Between 1 8 (p .x)
+
+pub profile-in-range : (p : Profile) → profileRefusal p .number ≡ 0 → InRange p
+unfolding profileRefusal
+profile-in-range p e =
+    let a = both-done _ _ e in
+    let b = both-done _ _ (a .second) in
+    record { levels = not-refused 2 32 (p .q) 0 (a .first); length = not-refused 1 128 (p .m) 1 (b .first); reach = not-refused 1 8 (p .x) 2 (b .second) }
+
+-- An output that is not refused has room.
+pub room-refused : (needed lent : ℕ) → lent < needed → roomRefusal needed lent ≡ refused 9 0
+unfolding roomRefusal
+room-refused needed lent l = rw (lt-ltb lent needed l)
+
+pub room-enough : (needed lent : ℕ) → needed ≤ lent → roomRefusal needed lent ≡ done
+unfolding roomRefusal
+room-enough needed lent l = rw (le-ltb lent needed l)
+
+pub has-room : (needed lent : ℕ) → roomRefusal needed lent .number ≡ 0 → needed ≤ lent
+unfolding roomRefusal
+has-room needed lent = go (ltb lent needed) refl
+  where
+    go : (t : Bool) → ltb lent needed ≡ t → refusedIf t 9 .number ≡ 0 → needed ≤ lent
+    go true s e = absurd (omega arith)
+    go false s e = ltb-false lent needed s
+
+-- A test that holds at none of the places from `place` to below `end`.
+abbrev pub Nowhere : (ℕ → Bool) → ℕ → ℕ → Type 0
+Nowhere test place end = (k : ℕ) → place ≤ k → k < end → test k ≡ false
+
+first-from : (place : ℕ) (test : ℕ → Bool) (n number i : ℕ) → place ≤ i → i < place + n → Nowhere test place i → test i ≡ true
+    → refusedFrom place test n number ≡ refused number i
+first-from place test zero number i l h b t = absurd (omega arith)
+first-from place test (suc n) number i l h b t = ⊎-elim
+    (λ (s : place ≡ i). rw (s, t))
+    (λ (s : place < i). rw (b place (omega arith) s) (first-from (suc place) test n number i s (omega arith) (λ k j. b k (omega arith)) t))
+    (eq-or-lt-of-le l)
+
+none-from : (place : ℕ) (test : ℕ → Bool) (n number : ℕ) → Nowhere test place (place + n) → refusedFrom place test n number ≡ done
+none-from place test zero number b = refl
+none-from place test (suc n) number b =
+    rw (b place (omega arith) (omega arith)) (none-from (suc place) test n number (λ k l h. b k (omega arith) (omega arith)))
+
+done-from : (place : ℕ) (test : ℕ → Bool) (n number : ℕ) → refusedFrom place test n (suc number) .number ≡ 0 → Nowhere test place (place + n)
+done-from place test zero number e k l h = absurd (omega arith)
+done-from place test (suc n) number e k l h = go (test place) refl (λ d. done-from (suc place) test n number d k) e
+  where
+    go : (b : Bool) → test place ≡ b → (refusedFrom (suc place) test n (suc number) .number ≡ 0 → suc place ≤ k → k < suc place + n → test k ≡ false)
+        → cond b (refused (suc number) place) (refusedFrom (suc place) test n (suc number)) .number ≡ 0 → test k ≡ false
+    go true s more d = absurd (omega arith)
+    go false s more d = ⊎-elim (λ (j : place ≡ k). rw (← j) s) (λ (j : place < k). more d j (omega arith)) (eq-or-lt-of-le l)
+
+-- Refused at the first place at which the test holds; done where it holds at none, and only there.
+pub first-refused : (test : ℕ → Bool) (n number i : ℕ) → Nowhere test 0 i → test i ≡ true → i < n → refusedAtFirst test n number ≡ refused number i
+unfolding refusedAtFirst
+first-refused test n number i b t l = first-from 0 test n number i (omega arith) (omega arith) b t
+
+pub none-refused : (test : ℕ → Bool) (n number : ℕ) → Nowhere test 0 n → refusedAtFirst test n number ≡ done
+unfolding refusedAtFirst
+none-refused test n number b = none-from 0 test n number (λ k l h. b k l (omega arith))
+
+pub holds-nowhere : (test : ℕ → Bool) (n number : ℕ) → refusedAtFirst test n (suc number) .number ≡ 0 → Nowhere test 0 n
+unfolding refusedAtFirst
+holds-nowhere test n number e k l h = done-from 0 test n number e k l (omega arith)

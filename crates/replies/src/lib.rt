@@ -1,0 +1,117 @@
+// What a call is handed and what it answers: the profile, the reply with its number and place, and
+// the tests of a profile and of the room in a lent output.
+ghost use mathlib.Core.Path.{_≡_};
+ghost use Rattle.replies.specs.Replies.{outsideRefusal, levelsRefusal, lengthRefusal, reachRefusal, profileRefusal, roomRefusal};
+
+// A profile: q levels, word length m, reach x. Any numbers may be handed in; what is out of range is
+// refused.
+pub struct Profile {
+    pub q: usize,
+    pub m: usize,
+    pub x: usize,
+}
+
+// A reply: its number, and its place where the number has one.
+pub struct Reply {
+    pub number: u8,
+    pub place: usize,
+}
+
+// The answer of a call that writes: its reply, and how many cells or limbs it wrote.
+pub struct Written {
+    pub reply: Reply,
+    pub count: usize,
+}
+
+// The numbers of document 01.
+pub const DONE: u8 = 0;
+
+pub const LEVELS: u8 = 1;
+
+pub const LENGTH: u8 = 2;
+
+pub const REACH: u8 = 3;
+
+pub const NO_MESSAGE: u8 = 4;
+
+pub const TABLE_SHORT: u8 = 5;
+
+pub const TABLE_WRONG: u8 = 6;
+
+pub const INPUT_LENGTH: u8 = 7;
+
+pub const OUTPUT_SHORT: u8 = 9;
+
+pub const CELL: u8 = 10;
+
+pub const PATTERN: u8 = 11;
+
+pub const NO_SUCH: u8 = 12;
+
+// Refused with a number, at place 0, unless n is from low to high.
+fn outside(low: usize, high: usize, n: usize, number: u8) -> Reply
+    ensures { λ r. ⌜ r ≡ outsideRefusal low high n number ⌝ }
+{
+    if n < low {
+        return Reply { number, place: 0 };
+    }
+    if high < n {
+        return Reply { number, place: 0 };
+    }
+    Reply {
+        number: DONE,
+        place: 0,
+    }
+}
+
+// Number 1.
+pub fn refused_levels(q: usize) -> Reply
+    ensures { λ r. ⌜ r ≡ levelsRefusal q ⌝ }
+{
+    outside(2, 32, q, LEVELS)
+}
+
+// Number 2.
+pub fn refused_length(m: usize) -> Reply
+    ensures { λ r. ⌜ r ≡ lengthRefusal m ⌝ }
+{
+    outside(1, 128, m, LENGTH)
+}
+
+// Number 3.
+pub fn refused_reach(x: usize) -> Reply
+    ensures { λ r. ⌜ r ≡ reachRefusal x ⌝ }
+{
+    outside(1, 8, x, REACH)
+}
+
+// Numbers 1 to 3: the first that applies to a profile.
+pub fn refused_profile(p: Profile) -> Reply
+    ensures { λ r. ⌜ r ≡ profileRefusal p ⌝ }
+{
+    let q = refused_levels(p.q);
+    if q.number != DONE {
+        return q;
+    }
+    let m = refused_length(p.m);
+    if m.number != DONE {
+        return m;
+    }
+    refused_reach(p.x)
+}
+
+// Number 9: an output of `lent` places is too short for what needs `needed`.
+pub fn refused_room(needed: usize, lent: usize) -> Reply
+    ensures { λ r. ⌜ r ≡ roomRefusal needed lent ⌝ }
+{
+    if lent < needed {
+        return Reply {
+            number: OUTPUT_SHORT,
+            place: 0,
+        };
+    }
+    Reply {
+        number: DONE,
+        place: 0,
+    }
+}

@@ -1,0 +1,1 @@
+// Tables of counts: built, shipped, and checked against a profile.
