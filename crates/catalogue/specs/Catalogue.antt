@@ -1,5 +1,4 @@
 -- The forty published profiles, and the outcome of asking for one.
-use mathlib.Core.Bool.{cond}
 use mathlib.Core.List.{List, [], _∷_}
 use Prim.Native.Nat.{ℕ, zero, suc}
 use Rattle.replies.specs.Replies.{done, refused}
@@ -21,6 +20,7 @@ publishedRows =
     row 16 2 24 95 ∷ row 16 2 34 135 ∷ row 16 2 51 203 ∷ row 16 2 73 291 ∷ row 16 2 100 399 ∷
     row 32 2 25 124 ∷ row 32 2 36 179 ∷ row 32 2 56 279 ∷ row 32 2 77 384 ∷ row 32 2 108 539 ∷ []
 
+-- The row with a number; past the end it is refused.
 abbrev pub rowAt : List Published → ℕ → Published
 rowAt [] i = record { reply = refused 12 0; q = 0; x = 0; m = 0; s = 0 }
 rowAt (r ∷ rows) zero = r
