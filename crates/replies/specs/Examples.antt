@@ -1,0 +1,44 @@
+-- Worked examples of the definitions.
+use mathlib.Core.Path.{_≡_, refl}
+use mathlib.Core.List.{[], _∷_}
+use Prim.Native.Nat.{ℕ}
+use lib.Dec.{eqb}
+use Rattle.replies.specs.declared.Profile.{Profile}
+use Rattle.replies.specs.Replies.{done, refused, refusedAtFirst, orElse, outsideRefusal, profileRefusal, roomRefusal, writing}
+
+abbrev of : ℕ → ℕ → ℕ → Profile
+of q m x = record { q = q; m = m; x = x }
+
+pub record Examples : Type 0 where
+  pub least : profileRefusal (of 2 1 1) ≡ done
+  pub most : profileRefusal (of 32 128 8) ≡ done
+  pub lowest-number : profileRefusal (of 33 0 9) ≡ refused 1 0
+  pub no-cells : profileRefusal (of 2 0 9) ≡ refused 2 0
+  pub too-long : profileRefusal (of 2 129 1) ≡ refused 2 0
+  pub no-reach : profileRefusal (of 2 1 0) ≡ refused 3 0
+  pub too-far : profileRefusal (of 2 1 9) ≡ refused 3 0
+  pub one-short : roomRefusal 5 4 ≡ refused 9 0
+  pub just-enough : roomRefusal 5 5 ≡ done
+  pub first-place : refusedAtFirst (eqb 1) 4 7 ≡ refused 7 1
+  pub no-place : refusedAtFirst (eqb 4) 4 7 ≡ done
+  pub written : writing done (8 ∷ 9 ∷ []) (1 ∷ 2 ∷ 3 ∷ []) ≡ record { answer = record { reply = done; count = 2 }; lent = 8 ∷ 9 ∷ 3 ∷ [] }
+  pub not-written :
+      writing (refused 9 0) (8 ∷ 9 ∷ []) (1 ∷ 2 ∷ 3 ∷ []) ≡ record { answer = record { reply = refused 9 0; count = 0 }; lent = 1 ∷ 2 ∷ 3 ∷ [] }
+
+pub examples : Examples
+unfolding refusedAtFirst orElse outsideRefusal profileRefusal roomRefusal writing
+examples = record {
+  least = refl;
+  most = refl;
+  lowest-number = refl;
+  no-cells = refl;
+  too-long = refl;
+  no-reach = refl;
+  too-far = refl;
+  one-short = refl;
+  just-enough = refl;
+  first-place = refl;
+  no-place = refl;
+  written = refl;
+  not-written = refl;
+}
