@@ -50,6 +50,8 @@ def tried(state, n, at):
     show(1 if a < b else 0, [(a - b) % BASE**n // BASE**i % BASE for i in range(n)] + acc[n:])
     show_held(a * k, n, acc)
     show_held(a + b * k, n, acc)
+    left = a + b * k - b * (k // 2)
+    show(k // 2, [left // BASE**i % BASE for i in range(n + 1)] + acc[n + 1 :])
     show((a > b) - (a < b) + 1, acc)
     show((b.bit_length() + 63) // 64, rows)
 

@@ -101,6 +101,19 @@ fn multiple_added(acc: [u64; 12], n: usize, rows: [u64; 14], at: usize, k: u64)
     show(carry, &a);
 }
 
+// The row is k times in the n + 1 limbs that it is taken from, and goes k / 2 times.
+fn multiple_taken(acc: [u64; 12], n: usize, rows: [u64; 14], at: usize, k: u64)
+    requires { ⌜ (n ≤ 10) × (at ≤ 4) ⌝ }
+{
+    let mut row = [0u64; 12];
+    limbs::add(&mut row, n, &rows, at);
+    let mut a = acc;
+    let carry = limbs::add_multiple(&mut a, n, &row, 0, k);
+    a[n] = carry;
+    limbs::subtract_multiple(&mut a, n + 1, &row, 0, k / 2);
+    show(k / 2, &a);
+}
+
 fn order(acc: [u64; 12], n: usize, rows: [u64; 14], at: usize)
     requires { ⌜ (n ≤ 10) × (at ≤ 4) ⌝ }
 {
@@ -126,6 +139,7 @@ fn tried(state: u64, n: usize, at: usize)
     difference(acc, n, rows, at);
     product(acc, n, k);
     multiple_added(acc, n, rows, at, k);
+    multiple_taken(acc, n, rows, at, k);
     order(acc, n, rows, at);
     used(rows, at, n);
 }
