@@ -1,12 +1,12 @@
 -- Laws of replies: which of two tests decides, where a profile that is not refused lies, and the first place at which a test holds.
 use mathlib.Core.Path.{_≡_, refl, _∙_, sym, ap}
-use mathlib.Core.Bool.{Bool, true, false, cond, _||_, true≢false, or-true}
+use mathlib.Core.Bool.{Bool, true, false, cond, _||_, true≢false}
 use mathlib.Core.Logic.{⊎-elim}
 use Prim.Native.Nat.{ℕ, zero, suc, _+_, _≤_, _<_}
 use native.Mathlib.Nat.{eq-or-lt-of-le}
 use native.Mathlib.Omega.{arith}
 use lib.Dec.{ltb, eqb}
-use borrow.Author.Tests.{ltb-true, ltb-false, lt-ltb, le-ltb, eqb-true, eq-eqb, ne-eqb}
+use borrow.Author.Tests.{ltb-false, eqb-true, eq-eqb, ne-eqb}
 use Rattle.replies.specs.declared.Reply.{Reply}
 use Rattle.replies.specs.declared.Profile.{Profile}
 use Rattle.replies.specs.Replies.{done, isDone, refused, refusedIf, refusedFrom, refusedAtFirst, orElse, outsideRefusal, profileRefusal, roomRefusal}
@@ -33,19 +33,7 @@ both-done a b = go (isDone a) refl
     go true s e = record { first = eqb-true (a .number) 0 s; second = e }
     go false s e = absurd (true≢false (sym (eq-eqb (a .number) 0 e) ∙ s))
 
--- Refused exactly outside low to high.
-pub too-low : (low high n number : ℕ) → n < low → outsideRefusal low high n number ≡ refused number 0
-unfolding outsideRefusal
-too-low low high n number l = rw (lt-ltb n low l)
-
-pub too-high : (low high n number : ℕ) → high < n → outsideRefusal low high n number ≡ refused number 0
-unfolding outsideRefusal
-too-high low high n number l = rw (lt-ltb high n l, or-true)
-
-pub in-between : (low high n number : ℕ) → low ≤ n → n ≤ high → outsideRefusal low high n number ≡ done
-unfolding outsideRefusal
-in-between low high n number l h = rw (le-ltb n low l, le-ltb high n h)
-
+-- What is not refused lies from low to high.
 pub record Between (low high n : ℕ) : Type 0 where
   pub least : low ≤ n
   pub most : n ≤ high
@@ -73,14 +61,6 @@ profile-in-range p e =
     record { levels = not-refused 2 32 (p .q) 0 (a .first); length = not-refused 1 128 (p .m) 1 (b .first); reach = not-refused 1 8 (p .x) 2 (b .second) }
 
 -- An output that is not refused has room.
-pub room-refused : (needed lent : ℕ) → lent < needed → roomRefusal needed lent ≡ refused 9 0
-unfolding roomRefusal
-room-refused needed lent l = rw (lt-ltb lent needed l)
-
-pub room-enough : (needed lent : ℕ) → needed ≤ lent → roomRefusal needed lent ≡ done
-unfolding roomRefusal
-room-enough needed lent l = rw (le-ltb lent needed l)
-
 pub has-room : (needed lent : ℕ) → roomRefusal needed lent .number ≡ 0 → needed ≤ lent
 unfolding roomRefusal
 has-room needed lent = go (ltb lent needed) refl

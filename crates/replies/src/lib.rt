@@ -1,7 +1,7 @@
 // What a call is handed and what it answers: the profile, the reply with its number and place, and
 // the tests of a profile and of the room in a lent output.
 ghost use mathlib.Core.Path.{_≡_};
-ghost use Rattle.replies.specs.Replies.{outsideRefusal, levelsRefusal, lengthRefusal, reachRefusal, profileRefusal, roomRefusal};
+ghost use Rattle.replies.specs.Replies.{done, refusedIf, outsideRefusal, levelsRefusal, lengthRefusal, reachRefusal, profileRefusal, roomRefusal};
 
 // A profile: q levels, word length m, reach x. Any numbers may be handed in; what is out of range is
 // refused.
@@ -48,41 +48,53 @@ pub const PATTERN: u8 = 11;
 
 pub const NO_SUCH: u8 = 12;
 
-// Refused with a number, at place 0, unless n is from low to high.
-fn outside(low: usize, high: usize, n: usize, number: u8) -> Reply
-    ensures { λ r. ⌜ r ≡ outsideRefusal low high n number ⌝ }
+// Done.
+pub fn done() -> Reply
+    ensures { λ r. ⌜ r ≡ done ⌝ }
 {
-    if n < low {
-        return Reply { number, place: 0 };
-    }
-    if high < n {
-        return Reply { number, place: 0 };
-    }
     Reply {
         number: DONE,
         place: 0,
     }
 }
 
+// Refused with a number, at place 0, where a test holds; else done.
+pub fn refused_if(test: bool, number: u8) -> Reply
+    ensures { λ r. ⌜ r ≡ refusedIf test number ⌝ }
+{
+    if test {
+        Reply { number, place: 0 }
+    } else {
+        done()
+    }
+}
+
+// Refused with a number unless n is from low to high.
+fn refused_outside(low: usize, high: usize, n: usize, number: u8) -> Reply
+    ensures { λ r. ⌜ r ≡ outsideRefusal low high n number ⌝ }
+{
+    refused_if((n < low) | (high < n), number)
+}
+
 // Number 1.
 pub fn refused_levels(q: usize) -> Reply
     ensures { λ r. ⌜ r ≡ levelsRefusal q ⌝ }
 {
-    outside(2, 32, q, LEVELS)
+    refused_outside(2, 32, q, LEVELS)
 }
 
 // Number 2.
 pub fn refused_length(m: usize) -> Reply
     ensures { λ r. ⌜ r ≡ lengthRefusal m ⌝ }
 {
-    outside(1, 128, m, LENGTH)
+    refused_outside(1, 128, m, LENGTH)
 }
 
 // Number 3.
 pub fn refused_reach(x: usize) -> Reply
     ensures { λ r. ⌜ r ≡ reachRefusal x ⌝ }
 {
-    outside(1, 8, x, REACH)
+    refused_outside(1, 8, x, REACH)
 }
 
 // Numbers 1 to 3: the first that applies to a profile.
@@ -104,14 +116,5 @@ pub fn refused_profile(p: Profile) -> Reply
 pub fn refused_room(needed: usize, lent: usize) -> Reply
     ensures { λ r. ⌜ r ≡ roomRefusal needed lent ⌝ }
 {
-    if lent < needed {
-        return Reply {
-            number: OUTPUT_SHORT,
-            place: 0,
-        };
-    }
-    Reply {
-        number: DONE,
-        place: 0,
-    }
+    refused_if(lent < needed, OUTPUT_SHORT)
 }
