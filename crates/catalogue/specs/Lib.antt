@@ -1,2 +1,6 @@
 pub mod Catalogue
+pub mod HighestBit
+pub mod LengthLaws
 pub mod Rating
+pub mod RatingLaws
+pub mod RowsRight
