@@ -1,4 +1,5 @@
--- Replies holds the definitions, Examples the worked examples, ReplyLaws the laws.
+-- Replies holds the definitions, Examples the worked examples; the other files hold the laws.
 pub mod Replies
 pub mod Examples
 pub mod ReplyLaws
+pub mod WritingLaws

@@ -6,7 +6,7 @@ use Prim.Native.Nat.{ℕ, zero, suc, _+_, _≤_, _<_}
 use native.Mathlib.Nat.{eq-or-lt-of-le}
 use native.Mathlib.Omega.{arith}
 use lib.Dec.{ltb, eqb}
-use borrow.Author.Tests.{ltb-false, eqb-true, eq-eqb, ne-eqb}
+use borrow.Author.Tests.{ltb-false, le-ltb, eqb-true, eq-eqb, ne-eqb}
 use Rattle.replies.specs.declared.Reply.{Reply}
 use Rattle.replies.specs.declared.Profile.{Profile}
 use Rattle.replies.specs.Replies.{done, isDone, refused, refusedIf, refusedFrom, refusedAtFirst, orElse, outsideRefusal, profileRefusal, roomRefusal}
@@ -60,7 +60,11 @@ profile-in-range p e =
     let b = both-done _ _ (a .second) in
     record { levels = not-refused 2 32 (p .q) 0 (a .first); length = not-refused 1 128 (p .m) 1 (b .first); reach = not-refused 1 8 (p .x) 2 (b .second) }
 
--- An output that is not refused has room.
+-- An output is not refused where it has room, and only there.
+pub room-enough : (needed lent : ℕ) → needed ≤ lent → roomRefusal needed lent ≡ done
+unfolding roomRefusal
+room-enough needed lent l = rw (le-ltb lent needed l)
+
 pub has-room : (needed lent : ℕ) → roomRefusal needed lent .number ≡ 0 → needed ≤ lent
 unfolding roomRefusal
 has-room needed lent = go (ltb lent needed) refl

@@ -1,0 +1,26 @@
+-- Laws of a call that writes: what it answers and leaves in the lent list where it is refused, and where it is done.
+use mathlib.Core.Path.{_≡_, refl}
+use mathlib.Core.List.{List, _++_}
+use Prim.Native.Nat.{ℕ}
+use lib.ListN.{length, drop}
+use borrow.Author.Tests.{eq-eqb, ne-eqb}
+use Rattle.replies.specs.declared.Reply.{Reply}
+use Rattle.replies.specs.declared.Written.{Written}
+use Rattle.replies.specs.Replies.{done, Outcome, writing}
+
+-- A call's answer and what it leaves in the lent list are those of an outcome.
+abbrev pub Comes : Outcome → Written → List ℕ → Type 0
+Comes outcome answer after = (answer ≡ outcome .answer) × (after ≡ outcome .lent)
+
+-- Refused: nothing is written.
+pub writing-refused : (reply refusal : Reply) (content lent : List ℕ) → reply ≡ refusal → (reply .number ≡ 0 → ⊥)
+    → Comes (writing refusal content lent) (record { reply = reply; count = 0 }) lent
+unfolding writing
+writing-refused reply refusal content lent e n = rw (← e, ne-eqb (reply .number) 0 n) (refl, refl)
+
+-- Done: the content from the front, and its length.
+pub writing-done : (reply refusal : Reply) (content lent : List ℕ) {count : ℕ} {after : List ℕ} → reply ≡ refusal → reply .number ≡ 0
+    → count ≡ length content → after ≡ content ++ drop (length content) lent
+    → Comes (writing refusal content lent) (record { reply = done; count = count }) after
+unfolding writing
+writing-done reply refusal content lent e z c a = rw (← e, eq-eqb (reply .number) 0 z) (rw c, a)
