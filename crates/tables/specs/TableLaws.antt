@@ -1,18 +1,19 @@
 -- Laws of tables: one that is not refused belongs, and its rows may be read over the limbs in use alone.
-use mathlib.Core.Path.{_≡_, refl, _∙_}
+use mathlib.Core.Path.{_≡_, refl, sym, _∙_}
 use mathlib.Core.Bool.{Bool, true, false, not, true≢false}
 use mathlib.Core.List.{List}
+use mathlib.Core.Logic.{⊎-elim}
 use Prim.Native.Nat.{ℕ, zero, suc, _+_, _*_, _^_, _≤_, _<_}
-use native.Mathlib.Nat.{add-zero, add-suc, le-add-right, mul-zero, mul-suc, pow-le-pow-right}
+use native.Mathlib.Nat.{eq-or-lt-of-le, add-zero, add-suc, le-add-right, mul-zero, mul-suc, pow-le-pow-right}
 use native.Mathlib.Omega.{arith}
-use lib.Dec.{ltb, eqb}
+use lib.Dec.{ltb}
 use lib.ListN.{length, getD}
-use borrow.Author.Tests.{ltb-false, eqb-true}
+use borrow.Author.Tests.{ltb-false, lt-ltb, le-ltb, eqb-true, eq-eqb}
 use Rattle.limbs.specs.Limbs.{base, numberAt}
 use Rattle.limbs.specs.ValueLaws.{numberAt-more, base-positive}
 use Rattle.replies.specs.declared.Profile.{Profile}
-use Rattle.replies.specs.Replies.{refusedIf}
-use Rattle.replies.specs.ReplyLaws.{both-done, holds-nowhere}
+use Rattle.replies.specs.Replies.{done, refused, refusedIf, refusedAtFirst, orElse}
+use Rattle.replies.specs.ReplyLaws.{both-done, holds-nowhere, first-refused, none-refused}
 use Rattle.code.specs.Code.{N}
 use Rattle.tables.specs.Tables.{tableLength, rowRight, Belongs, tableRefusal}
 
@@ -23,9 +24,14 @@ not-short n k = go (ltb n k) refl
     go true s e = absurd (omega arith)
     go false s e = ltb-false n k s
 
-not-wrong : (b : Bool) → not b ≡ false → b ≡ true
+-- A row is right or wrong.
+pub not-wrong : (right : Bool) → not right ≡ false → right ≡ true
 not-wrong true e = refl
 not-wrong false e = absurd (true≢false e)
+
+pub not-right : (right : Bool) → not right ≡ true → right ≡ false
+not-right true e = absurd (true≢false (sym e))
+not-right false e = refl
 
 -- A table that is not refused belongs.
 pub table-belongs : (p : Profile) (table : List ℕ) → tableRefusal p table .number ≡ 0 → Belongs (p .q) (p .x) (p .m) table
@@ -38,6 +44,37 @@ table-belongs p table e =
       rows = λ i l. eqb-true _ _ (not-wrong _ (none i (omega arith) (omega arith)));
     }
 
+-- A table with a wrong row, one that is too short, and one that belongs.
+pub table-short : (p : Profile) (table : List ℕ) → length table < tableLength (p .m) → tableRefusal p table ≡ refused 5 0
+unfolding tableRefusal orElse
+table-short p table l = rw (lt-ltb (length table) (tableLength (p .m)) l)
+
+module _ (p : Profile) (table : List ℕ) (long : tableLength (p .m) ≤ length table) where
+  rows-decide : tableRefusal p table ≡ refusedAtFirst (λ i. not (rowRight (p .q) (p .x) table i)) (p .m + 1) 6
+  unfolding tableRefusal orElse
+  rows-decide = rw (le-ltb (length table) (tableLength (p .m)) long)
+
+  pub table-wrong : (i : ℕ) → i ≤ p .m → ((k : ℕ) → k < i → numberAt 10 table (10 * k) ≡ N (p .q) (p .x) k) → rowRight (p .q) (p .x) table i ≡ false
+      → tableRefusal p table ≡ refused 6 i
+  table-wrong i l before wrong =
+      rows-decide ∙ first-refused _ (p .m + 1) 6 i (λ k _ h. rw (eq-eqb _ _ (before k h))) (rw wrong) (omega arith)
+
+  pub table-right : ((i : ℕ) → i ≤ p .m → numberAt 10 table (10 * i) ≡ N (p .q) (p .x) i) → tableRefusal p table ≡ done
+  table-right rows = rows-decide ∙ none-refused _ (p .m + 1) 6 (λ k _ h. rw (eq-eqb _ _ (rows k (omega arith))))
+
+-- A table belongs row by row.
+pub belongs-first : (q x : ℕ) (table : List ℕ) → tableLength 0 ≤ length table → numberAt 10 table 0 ≡ N q x 0 → Belongs q x 0 table
+belongs-first q x table long e = record { long = long; rows = go }
+  where
+    go : (i : ℕ) → i ≤ 0 → numberAt 10 table (10 * i) ≡ N q x i
+    go zero l = e
+    go (suc i) l = absurd (omega arith)
+
+pub belongs-more : (q x i : ℕ) (table : List ℕ) → Belongs q x i table → tableLength (i + 1) ≤ length table
+    → numberAt 10 table (10 * (i + 1)) ≡ N q x (i + 1) → Belongs q x (i + 1) table
+belongs-more q x i table b long e =
+    record { long = long; rows = λ k l. ⊎-elim (λ (s : k ≡ i + 1). rw s e) (λ (s : k < i + 1). b .rows k (omega arith)) (eq-or-lt-of-le l) }
+
 no-limb-above : (a small power limb : ℕ) → small ≤ power → a + power * limb < small → power * limb ≡ 0
 no-limb-above a small power zero l h = rw mul-zero
 no-limb-above a small power (suc limb) l h = let e = mul-suc power limb in absurd (omega arith)
@@ -47,6 +84,7 @@ pub lowest-limbs : (n k : ℕ) (limbs : List ℕ) (at : ℕ) → numberAt (n + k
 lowest-limbs n zero limbs at l = rw add-zero
 lowest-limbs n (suc k) limbs at l =
     let split = numberAt-more (n + k) limbs at in
-    let none = no-limb-above (numberAt (n + k) limbs at) _ _ (getD limbs (at + (n + k)) 0) (pow-le-pow-right base-positive (le-add-right n k)) (rw (add-suc, split) at l) in
+    let more = pow-le-pow-right base-positive (le-add-right n k) in
+    let none = no-limb-above (numberAt (n + k) limbs at) _ _ (getD limbs (at + (n + k)) 0) more (rw (add-suc, split) at l) in
     let same : numberAt (suc (n + k)) limbs at ≡ numberAt (n + k) limbs at = split ∙ rw (none, add-zero) in
     rw (add-suc, same) (lowest-limbs n k limbs at (rw (add-suc, same) at l))

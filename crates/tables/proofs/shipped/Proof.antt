@@ -1,0 +1,67 @@
+-- `tables::shipped` meets its contract: the first test that refuses decides, and else the whole table is written.
+use native.Mathlib.Omega.{arith}
+use borrow.Author.Needs.{needs}
+use Rattle.tables.specs.Tables.{handingOut}
+use Rattle.tables.specs.WritingLaws.{table-refused, handed-done, room-found, table-written, length-found}
+use Rattle.tables.proofs.shipped.Statement.{statement}
+use Rattle.tables.proofs.shipped.Tie as tie
+
+refused-length-requires : tie.Need-refused-length-requires
+refused-length-requires c κs = search needs
+
+refused-requires : tie.Need-refused-requires
+refused-requires c κs = λ taken. length-found _ (c .refused-length .ensures) taken .most
+
+returns : tie.Need-returns
+unfolding handingOut
+returns c =
+    let r = c .before .before in
+    let s = r .before .before .before .args in
+    table-refused 4 1 (s .m) (s .out .now) (r .before .refused-length .ensures) (r .refused .ensures) (c .if1 .taken)
+
+copy-requires : tie.Need-copy-requires
+copy-requires c κs =
+    let r = c .before .before .before in
+    let s = r .before .before .before .args in
+    let taken = c .before .if1 .left in
+    let handed = handed-done 4 1 (s .m) (s .out .now) (r .before .refused-length .ensures) (r .refused .ensures) taken in
+    let room = room-found 4 1 (s .m) (s .out .now) (r .before .refused-length .ensures) (r .refused .ensures) taken in
+    (length-found _ (r .before .refused-length .ensures) handed .most, room)
+
+add-t5 : tie.Need-add-t5
+add-t5 c =
+    let r = c .before .before .before .before .before .before in
+    let s = r .before .before .before .args in
+    let taken = c .before .before .before .before .if1 .left in
+    omega (arith, room-found 4 1 (s .m) (s .out .now) (r .before .refused-length .ensures) (r .refused .ensures) taken)
+
+mul-t10 : tie.Need-mul-t10
+mul-t10 c =
+    let r = c .before .before .before .before .before .before in
+    let s = r .before .before .before .args in
+    let taken = c .before .before .before .before .if1 .left in
+    omega (arith, room-found 4 1 (s .m) (s .out .now) (r .before .refused-length .ensures) (r .refused .ensures) taken)
+
+same-length : tie.Need-same-length
+same-length c = search needs
+
+returns-2 : tie.Need-returns-2
+unfolding handingOut
+returns-2 c =
+    let r = c .before .before .before .before .before .before in
+    let s = r .before .before .before .args in
+    let taken = c .before .before .before .before .if1 .left in
+    table-written 4 1 (s .m) (s .out .now) (r .before .refused-length .ensures) (r .refused .ensures) taken (c .before .before .copy .ensures)
+
+pub shipped-spec : {M : Type 1} → statement M
+shipped-spec =
+    tie.close
+    (tie.spec
+    refused-length-requires
+    refused-requires
+    returns
+    copy-requires
+    add-t5
+    mul-t10
+    same-length
+    returns-2)

@@ -1,0 +1,53 @@
+-- Laws of a call that writes a table: what it answers and leaves in the lent list where it is refused, and where it is done.
+use mathlib.Core.Path.{_≡_, refl, sym, _∙_}
+use mathlib.Core.List.{List, _++_}
+use Prim.Native.Nat.{ℕ, _+_, _≤_}
+use lib.ListN.{length, drop}
+use borrow.Author.Tests.{eq-eqb}
+use Rattle.replies.specs.declared.Profile.{Profile}
+use Rattle.replies.specs.declared.Reply.{Reply}
+use Rattle.replies.specs.Replies.{done, orElse, lengthRefusal, profileRefusal, roomRefusal, Outcome, writing}
+use Rattle.replies.specs.ReplyLaws.{BothDone, both-done, Between, InRange, not-refused, profile-in-range, has-room, room-enough}
+use Rattle.replies.specs.WritingLaws.{Comes, writing-refused, writing-done}
+use Rattle.tables.specs.Tables.{tableLength, tableOf}
+use Rattle.tables.specs.Rows.{frontRows}
+use Rattle.tables.specs.RowLaws.{length-table, table-front}
+
+-- The outcome of a call that writes a table, where a test of what it is handed comes before that of the room.
+abbrev pub tableWriting : ℕ → ℕ → ℕ → Reply → List ℕ → Outcome
+tableWriting q x m test lent = writing (orElse test (roomRefusal (tableLength m) (length lent))) (tableOf q x m) lent
+
+-- A call that tests what it is handed, then the room for the table: the first test that refuses decides, and else the table is written.
+module _ (q x m : ℕ) (lent : List ℕ) {reply handed test : Reply} (given : handed ≡ test)
+    (tested : reply ≡ orElse handed (roomRefusal (tableLength m) (length lent))) where
+  decided : reply ≡ orElse test (roomRefusal (tableLength m) (length lent))
+  decided = tested ∙ rw given
+
+  pub table-refused : (reply .number ≡ 0 → ⊥) → Comes (tableWriting q x m test lent) (record { reply = reply; count = 0 }) lent
+  table-refused n = writing-refused reply _ (tableOf q x m) lent decided n
+
+  module _ (taken : reply .number ≡ 0) where
+    both : BothDone handed (roomRefusal (tableLength m) (length lent))
+    both = both-done handed _ (rw tested at taken)
+
+    pub handed-done : handed .number ≡ 0
+    handed-done = both .first
+
+    pub room-found : tableLength m ≤ length lent
+    room-found = has-room (tableLength m) (length lent) (both .second)
+
+    reply-done : reply ≡ done
+    unfolding orElse
+    reply-done = tested ∙ rw (eq-eqb (handed .number) 0 handed-done) (room-enough (tableLength m) (length lent) room-found)
+
+    pub table-written : {after : List ℕ} → after ≡ frontRows q x (m + 1) lent
+        → Comes (tableWriting q x m test lent) (record { reply = reply; count = tableLength m }) after
+    table-written a =
+        rw reply-done (writing-done reply _ (tableOf q x m) lent decided taken (sym (length-table q x m)) (a ∙ table-front q x m lent))
+
+-- What tests that do not refuse say.
+pub range-found : (p : Profile) {reply : Reply} → reply ≡ profileRefusal p → reply .number ≡ 0 → InRange p
+range-found p e z = profile-in-range p (rw e at z)
+
+pub length-found : (m : ℕ) {reply : Reply} → reply ≡ lengthRefusal m → reply .number ≡ 0 → Between 1 128 m
+length-found m e z = not-refused 1 128 m 1 (rw e at z)
