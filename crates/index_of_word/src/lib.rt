@@ -1,9 +1,65 @@
 // The index of a word: the number of legal words of its length before it.
 use numbers::Index;
+use replies::Profile;
 use replies::Reply;
+ghost use mathlib.Core.Path.{_≡_};
+ghost use Rattle.index_of_word.specs.Indexing.{wordRefusal, indexing};
+ghost use Rattle.index_of_word.specs.Whole.{Indexable, withIndex};
+
+mod stretch;
 
 // The answer: the reply, and the index, which is 0 where the call is refused.
 pub struct Ranked {
     pub reply: Reply,
     pub index: Index,
+}
+
+// Adds the index of a legal word to the first n limbs of `sum`, from the rows of a table that
+// belongs to the profile.
+pub fn add_index(q: usize, x: usize, table: &[u64], n: usize, cells: &[u8], sum: &mut [u64])
+    requires { ⌜ Indexable q x n (now table) (now cells) (now sum) ⌝ }
+    ensures { λ _. ⌜ now (sum .exit) ≡ withIndex q x n (now (cells .entry)) (now (sum .entry)) ⌝ }
+{
+    stretch::open_stretch((q - 1) as u64, x, table, n, cells, 0, sum);
+}
+
+// The tests, in the order of their numbers: profile, table, length, cells.
+fn refused_word(p: Profile, table: &[u64], cells: &[u8]) -> Reply
+    ensures { λ r. ⌜ r ≡ wordRefusal p (now (table .entry)) (now (cells .entry)) ⌝ }
+{
+    let profile = replies::refused_profile(p);
+    if profile.number != replies::DONE {
+        return profile;
+    }
+    let rows = tables::refused_table(p, table);
+    if rows.number != replies::DONE {
+        return rows;
+    }
+    if cells.len() != p.m {
+        return Reply {
+            number: replies::INPUT_LENGTH,
+            place: 0,
+        };
+    }
+    cells::refused_cells(p.q, p.x, cells)
+}
+
+// The index of a word of the profile's code.
+pub fn index(p: Profile, table: &[u64], cells: &[u8]) -> Ranked
+    ensures { λ r. ⌜ r ≡ indexing p (now (table .entry)) (now (cells .entry)) ⌝ }
+{
+    let mut sum = [0; 10];
+    let reply = refused_word(p, table, cells);
+    if reply.number != replies::DONE {
+        let none = Index(sum);
+        return Ranked { reply, index: none };
+    }
+    let n = limbs::limbs_used(table, 10 * p.m, 10);
+    add_index(p.q, p.x, table, n, cells, &mut sum);
+    let index = Index(sum);
+    let done = Reply {
+        number: replies::DONE,
+        place: 0,
+    };
+    Ranked { reply: done, index }
 }

@@ -1,0 +1,151 @@
+-- A word that is not refused: its index may be summed up in the limbs in use of the table's last row, and fills ten limbs.
+use mathlib.Core.Path.{_≡_, refl, ap, sym}
+use mathlib.Core.Bool.{Bool, true, false, not}
+use mathlib.Core.List.{List, _∷_, _++_}
+use Prim.Native.Nat.{ℕ, zero, suc, _+_, _-_, _*_, _/_, _%_, _^_, _≤_, _<_}
+use native.Mathlib.Nat.{le-refl, le-trans, min-le-left, zero-add, lt-trans, div-lt-iff-lt-mul, pow-suc, pow-zero, suc-add}
+use native.Mathlib.Omega.{arith}
+use lib.Arith.{lt-one}
+use lib.Dec.{eqb}
+use lib.ListN.{length, take, drop, replicate, length-take}
+use borrow.Author.Tests.{eqb-true, eq-eqb, ne-eqb}
+use Rattle.limbs.specs.Limbs.{base, value, limbsOf, numberAt, holding, used, allLimbs}
+use Rattle.limbs.specs.ValueLaws.{base-positive}
+use Rattle.limbs.specs.UsedLaws.{used-length, numberAt-below-used}
+use Rattle.replies.specs.declared.Reply.{Reply}
+use Rattle.replies.specs.declared.Profile.{Profile}
+use Rattle.replies.specs.Replies.{done, refused, refusedIf, profileRefusal}
+use Rattle.replies.specs.ReplyLaws.{both-done, profile-in-range, InRange, decides, leaves}
+use Rattle.listing.specs.Order.{index-below-count}
+use Rattle.code.specs.Code.{N, LegalWord, legal, index}
+use Rattle.cells.specs.Finding.{cellsRefusal}
+use Rattle.cells.specs.CellLaws.{cells-accepted}
+use Rattle.tables.specs.Tables.{Belongs, tableRefusal}
+use Rattle.tables.specs.TableLaws.{table-belongs}
+use Rattle.index_of_word.specs.Indexing.{wordRefusal, indexing}
+use Rattle.index_of_word.specs.Whole.{Indexable, withIndex}
+
+-- Ten limbs of 0.
+abbrev pub noLimbs : List ℕ
+noLimbs = replicate 10 0
+
+-- They hold 0, as do the first n of them, ..
+value-of-none : (n k : ℕ) → value (take n (replicate k 0)) ≡ 0
+unfolding value
+value-of-none zero k = refl
+value-of-none (suc n) zero = refl
+value-of-none (suc n) (suc k) = rw (value-of-none n k)
+
+-- .. and are the limbs of 0.
+limbs-of-none : (k : ℕ) → limbsOf k 0 ≡ replicate k 0
+unfolding limbsOf
+limbs-of-none zero = refl
+limbs-of-none (suc k) = ap (λ (l : List ℕ). 0 ∷ l) (limbs-of-none k)
+
+-- A number that fits n limbs has 0 above them.
+limbs-above : (n k v : ℕ) → v < base ^ n → limbsOf n v ++ drop n (replicate (n + k) 0) ≡ limbsOf (n + k) v
+unfolding limbsOf
+limbs-above zero k v l = rw (zero-add, lt-one (rw pow-zero at l)) (sym (limbs-of-none k))
+limbs-above (suc n) k v l =
+    rw suc-add (ap (λ (w : List ℕ). v % base ∷ w) (limbs-above n k (v / base) (div-lt-iff-lt-mul base-positive .1 (rw pow-suc at l))))
+
+-- The index summed up from 0, in the n limbs that it fits, is the index in ten limbs.
+pub index-in-ten : (q x n : ℕ) (cells : List ℕ) → n ≤ 10 → index q x cells < base ^ n → withIndex q x n cells noLimbs ≡ limbsOf 10 (index q x cells)
+unfolding holding numberAt
+index-in-ten q x n cells l h =
+    let ten : n + (10 - n) ≡ 10 = omega arith in
+    rw (value-of-none n 10, zero-add) (rw ten at (limbs-above n (10 - n) (index q x cells) h))
+
+-- The first test that refuses decides.
+module _ (p : Profile) (table cells : List ℕ) {profile : Reply} (e : profile ≡ profileRefusal p) where
+  pub profile-decides : (profile .number ≡ 0 → ⊥) → profile ≡ wordRefusal p table cells
+  unfolding wordRefusal
+  profile-decides n = decides profile _ _ e n
+
+  pub table-decides : {rows : Reply} → profile .number ≡ 0 → rows ≡ tableRefusal p table → (rows .number ≡ 0 → ⊥) → rows ≡ wordRefusal p table cells
+  unfolding wordRefusal
+  table-decides {rows} z f n = leaves profile rows _ _ e z (decides rows _ _ f n)
+
+  pub length-decides : {rows : Reply} → profile .number ≡ 0 → rows ≡ tableRefusal p table → rows .number ≡ 0 → (length cells ≡ p .m → ⊥)
+      → refused 7 0 ≡ wordRefusal p table cells
+  unfolding wordRefusal
+  length-decides {rows} z f y n =
+      leaves profile (refused 7 0) _ _ e z (leaves rows (refused 7 0) _ _ f y (decides (refused 7 0) _ _ (rw (ne-eqb _ _ n)) (λ o. omega arith)))
+
+  pub cells-decide : {rows cell : Reply} → profile .number ≡ 0 → rows ≡ tableRefusal p table → rows .number ≡ 0 → length cells ≡ p .m
+      → cell ≡ cellsRefusal (p .q) (p .x) cells → cell ≡ wordRefusal p table cells
+  unfolding wordRefusal
+  cells-decide {rows} {cell} z f y l g = leaves profile cell _ _ e z (leaves rows cell _ _ f y (leaves done cell _ _ (rw (eq-eqb _ _ l)) refl g))
+
+-- A word that 7 does not refuse has m cells.
+length-is : (n m : ℕ) → refusedIf (not (eqb n m)) 7 .number ≡ 0 → n ≡ m
+length-is n m = go (eqb n m) refl
+  where
+    go : (b : Bool) → eqb n m ≡ b → refusedIf (not b) 7 .number ≡ 0 → n ≡ m
+    go true s e = eqb-true n m s
+    go false s e = absurd (omega arith)
+
+-- A word that is not refused: the profile is in range, the table belongs to it, and the cells are a legal word.
+pub record NotRefused (p : Profile) (table cells : List ℕ) : Type 0 where
+  pub range : InRange p
+  pub belongs : Belongs (p .q) (p .x) (p .m) table
+  pub word : LegalWord (p .q) (p .x) (p .m) cells
+
+pub not-refused-word : (p : Profile) (table cells : List ℕ) → wordRefusal p table cells .number ≡ 0 → NotRefused p table cells
+unfolding wordRefusal
+not-refused-word p table cells e =
+    let profile = both-done _ _ e in
+    let rows = both-done _ _ (profile .second) in
+    let long = both-done _ _ (rows .second) in
+    let accepted = cells-accepted (p .q) (p .x) cells (long .second) in
+    record {
+      range = profile-in-range p (profile .first);
+      belongs = table-belongs p table (rows .first);
+      word = record { cells = length-is _ _ (long .first); levelled = accepted .levelled; passes = accepted .passes };
+    }
+
+-- How many limbs of the last row are in use.
+abbrev pub limbsInUse : ℕ → List ℕ → ℕ
+limbsInUse m table = used (take 10 (drop (10 * m) table))
+
+module _ (p : Profile) (table cells : List ℕ) (all : allLimbs table) (s : NotRefused p table cells) where
+  -- The last row and the index fit these limbs.
+  few-limbs : limbsInUse (p .m) table ≤ 10
+  few-limbs = le-trans (used-length (take 10 (drop (10 * p .m) table))) (rw length-take (min-le-left 10 _))
+
+  last-row-fits : N (p .q) (p .x) (p .m) < base ^ limbsInUse (p .m) table
+  last-row-fits = rw (s .belongs .rows (p .m) (le-refl (p .m))) at (numberAt-below-used 10 table (10 * p .m) all)
+
+  index-fits : index (p .q) (p .x) cells < base ^ limbsInUse (p .m) table
+  unfolding index N
+  index-fits = lt-trans (index-below-count (p .q) (legal (p .q) (p .x)) (p .m) cells (s .word)) last-row-fits
+
+  -- So its index may be summed up from 0, ..
+  pub indexable : Indexable (p .q) (p .x) (limbsInUse (p .m) table) table cells noLimbs
+  unfolding numberAt
+  indexable = record {
+    levels = s .range .levels;
+    reach = s .range .reach;
+    levelled = s .word .levelled;
+    passes = s .word .passes;
+    belongs = rw (s .word .cells) (s .belongs);
+    limbs = few-limbs;
+    lent = few-limbs;
+    rows = rw (s .word .cells) last-row-fits;
+    fits = rw (value-of-none (limbsInUse (p .m) table) 10, zero-add) index-fits;
+  }
+
+  -- .. and is then the index in ten limbs.
+  pub index-whole : withIndex (p .q) (p .x) (limbsInUse (p .m) table) cells noLimbs ≡ limbsOf 10 (index (p .q) (p .x) cells)
+  index-whole = index-in-ten (p .q) (p .x) _ cells few-limbs index-fits
+
+-- The answer where nothing is refused, and where something is.
+pub indexing-done : (p : Profile) (table cells : List ℕ) {sum : List ℕ} → wordRefusal p table cells .number ≡ 0
+    → sum ≡ limbsOf 10 (index (p .q) (p .x) cells) → record { reply = done; index = record { 0 = sum } } ≡ indexing p table cells
+unfolding indexing
+indexing-done p table cells e f = rw (eq-eqb _ 0 e, f)
+
+pub indexing-refused : (p : Profile) (table cells : List ℕ) → (wordRefusal p table cells .number ≡ 0 → ⊥)
+    → record { reply = wordRefusal p table cells; index = record { 0 = noLimbs } } ≡ indexing p table cells
+unfolding indexing limbsOf
+indexing-refused p table cells n = rw (ne-eqb (wordRefusal p table cells .number) 0 n)
