@@ -1,0 +1,43 @@
+-- The shorter tasks that a word is spelt by: some cells are settled, the others are still to be written.
+use mathlib.Core.List.{List}
+use Prim.Native.Nat.{ℕ, _+_, _-_, _^_, min, _≤_, _<_}
+use lib.ListN.{length}
+use Rattle.limbs.specs.Limbs.{base, numberAt}
+use Rattle.replies.specs.ReplyLaws.{Between}
+use Rattle.patterns.specs.Walk.{walk}
+use Rattle.listing.specs.Listing.{wordOf}
+use Rattle.code.specs.Code.{published, N}
+use Rattle.code.specs.Stretches.{following}
+use Rattle.division.specs.Division.{timesIn, leftOver}
+use Rattle.tables.specs.Tables.{Belongs}
+
+-- The cells still to be written where the guard is `guard`: the word of an index among those that may follow there.
+unfoldable pub wordBehind : ℕ → ℕ → ℕ → ℕ → ℕ → List ℕ
+wordBehind q x guard left i = wordOf q (walk (published q x) guard) left i
+
+-- The weight of a cell where the guard is `guard`, with i cells on its right: how many words may follow it where it is below top.
+unfoldable pub weightBehind : ℕ → ℕ → ℕ → ℕ → ℕ
+weightBehind q x guard i = following (q - 1) x (guard - 1) i
+
+-- How many of the i cells on the right of a cell below top have to be below top as well.
+abbrev pub lowCells : ℕ → ℕ → ℕ
+lowCells guard i = min (guard - 1) i
+
+-- The level of the leftmost of `left` cells at the index i, and what it leaves of the index.
+abbrev pub levelOf : ℕ → ℕ → ℕ → ℕ → ℕ → ℕ
+levelOf q x guard left i = timesIn (q - 1) i (weightBehind q x guard (left - 1))
+
+abbrev pub leftBy : ℕ → ℕ → ℕ → ℕ → ℕ → ℕ
+leftBy q x guard left i = leftOver (q - 1) i (weightBehind q x guard (left - 1))
+
+-- A task: `left` cells where the guard is `guard`, by a table that belongs, at the index in the n lowest limbs of `rest`.
+-- The index is below the number of words that may follow, and all counts of the task fit n limbs.
+pub record Task (q x guard left : ℕ) (table : List ℕ) (n : ℕ) (rest : List ℕ) : Type 0 where
+  pub levels : Between 2 32 q
+  pub reach : Between 1 8 x
+  pub within : guard ≤ x + 1
+  pub belongs : Belongs q x left table
+  pub few : n ≤ 10
+  pub room : n ≤ length rest
+  pub fits : N q x left < base ^ n
+  pub below : numberAt n rest 0 < following (q - 1) x guard left

@@ -1,0 +1,96 @@
+-- Laws of weights and guards: a weight is a row of the table, or an earlier row times a power, and it fits where the row fits.
+use mathlib.Core.Path.{_≡_, refl, _∙_}
+use mathlib.Core.Logic.{⊎-elim}
+use mathlib.Core.Bool.{Bool, true, false, cond}
+use Prim.Native.Nat.{ℕ, zero, suc, _+_, _-_, _*_, _^_, min, _≤_, _<_}
+use native.Mathlib.Nat.{le-trans, lt-of-le-of-lt, le-refl, le-suc-iff, mul-comm, one-mul, mul-pos, sub-self}
+use native.Mathlib.Nat.{pow-suc, one-le-pow, pow-le-pow-left, pow-le-pow-right}
+use native.Mathlib.Numerals.{sub-one, add-one}
+use native.Mathlib.Omega.{arith}
+use lib.Dec.{ltb, leb, eqb, lit≤, lit<}
+use borrow.Author.Tests.{leb-true, leb-false, eq-eqb, ne-eqb, lt-ltb}
+use Rattle.limbs.specs.Limbs.{base}
+use Rattle.patterns.specs.Walk.{guardAfter}
+use Rattle.code.specs.Code.{published, N}
+use Rattle.code.specs.Stretches.{following, following-legal, following-most, following-weight}
+use Rattle.code.specs.Theorem1.{count-of-no-cells}
+use Rattle.code.specs.Sizes.{count-grows}
+use Rattle.word_of_index.specs.Tasks.{weightBehind, lowCells}
+
+-- More cells have no fewer words, and there is always one.
+pub counts-rise : (q x i m : ℕ) → 1 < q → i ≤ m → N q x i ≤ N q x m
+counts-rise q x i zero l h = let e : i ≡ 0 = omega arith in rw e (le-refl _)
+counts-rise q x i (suc m) l h = ⊎-elim
+    (λ (b : i ≤ m). le-trans (counts-rise q x i m l b) (count-grows q x m l))
+    (λ (e : i ≡ suc m). rw e (le-refl _))
+    (le-suc-iff .0 h)
+
+count-positive : (q x m : ℕ) → 1 < q → 0 < N q x m
+count-positive q x m l = rw (count-of-no-cells q x (omega arith)) at (counts-rise q x 0 m l (omega arith))
+
+-- In an open stretch the legal words may follow, and nowhere may more.
+pub open-legal : (q x m : ℕ) → 1 < q → following (q - 1) x 0 m ≡ N q x m
+open-legal zero x m l = absurd (omega arith)
+open-legal (suc t) x m l = rw sub-one (following-legal t x m)
+
+pub most-open : (q x guard m : ℕ) → 1 < q → following (q - 1) x guard m ≤ N q x m
+most-open q x guard m l = rw (← open-legal q x m l) (following-most (q - 1) x guard m)
+
+-- The weight of a cell in an open stretch is a row of the table.
+pub weight-open : (q x guard i : ℕ) → 1 < q → guard ≤ 1 → weightBehind q x guard i ≡ N q x i
+unfolding weightBehind
+weight-open q x guard i l h = let none : guard - 1 ≡ 0 = omega arith in rw none (open-legal q x i l)
+
+weight-stretch : (t x g i : ℕ) → g ≤ x → following t x g i ≡ N (suc t) x (i - min g i) * t ^ min g i
+weight-stretch t x g i h = following-weight t x g i h ∙ go (leb g i) refl
+  where
+    go : (b : Bool) → leb g i ≡ b → cond b (t ^ g * following t x 0 (i - g)) (t ^ i) ≡ N (suc t) x (i - min g i) * t ^ min g i
+    go true e =
+        let l = leb-true g i e in
+        let lower : min g i ≡ g = omega arith in
+        rw (lower, following-legal t x (i - g)) (mul-comm (t ^ g) _)
+    go false e =
+        let l = leb-false g i e in
+        let lower : min g i ≡ i = omega arith in
+        rw (lower, sub-self i, count-of-no-cells (suc t) x (omega arith), one-mul)
+
+-- In a guarded one it is an earlier row times a power of q - 1.
+pub weight-guarded : (q x guard i : ℕ) → 1 < q → guard ≤ x + 1
+    → weightBehind q x guard i ≡ N q x (i - lowCells guard i) * (q - 1) ^ lowCells guard i
+unfolding weightBehind
+weight-guarded zero x guard i l h = absurd (omega arith)
+weight-guarded (suc t) x guard i l h = rw sub-one (weight-stretch t x (guard - 1) i (omega arith))
+
+-- It is not 0, and no more than the row.
+pub weight-positive : (q x guard i : ℕ) → 1 < q → guard ≤ x + 1 → 0 < weightBehind q x guard i
+weight-positive q x guard i l h =
+    rw (weight-guarded q x guard i l h)
+    (mul-pos (count-positive q x (i - lowCells guard i) l) (one-le-pow (lowCells guard i) (q - 1) (omega arith)))
+
+pub weight-within : (q x guard i : ℕ) → 1 < q → weightBehind q x guard i ≤ N q x i
+unfolding weightBehind
+weight-within q x guard i l = most-open q x (guard - 1) i l
+
+-- The power is a limb, and is made one factor at a time.
+pub power-fits : {t k : ℕ} → t ≤ 31 → k ≤ 8 → t ^ k < base
+power-fits {t} {k} l h = lt-of-le-of-lt (le-trans (pow-le-pow-left l k) (pow-le-pow-right (lit≤ tt) h)) (lit< {m = 31 ^ 8} {n = 2 ^ 64} tt)
+
+pub power-more : (t i : ℕ) {p : ℕ} → p ≡ t ^ i → p * t ≡ t ^ (i + 1)
+power-more t i e = rw (e, add-one, pow-suc t i)
+
+-- The guard behind a top, and behind a level below it.
+pub guard-behind-top : (q x guard : ℕ) {level : ℕ} → level ≡ q - 1 → x + 1 ≡ guardAfter (published q x) guard level
+guard-behind-top q x guard {level} e = rw (eq-eqb level (q - 1) e, add-one)
+
+pub guard-behind-low : (q x guard : ℕ) {level behind : ℕ} → level ≤ q - 1 → (level ≡ q - 1 → ⊥) → behind ≡ guard - 1
+    → behind ≡ guardAfter (published q x) guard level
+guard-behind-low q x guard {level} l n e = rw (ne-eqb level (q - 1) n, lt-ltb level (q - 1) (omega arith)) e
+
+-- It is never more than behind a top.
+pub guard-within : (q x guard level : ℕ) → guard ≤ x + 1 → guardAfter (published q x) guard level ≤ x + 1
+guard-within q x guard level l = go (eqb level (q - 1)) (ltb level (q - 1))
+  where
+    go : (a b : Bool) → cond a (suc x) (cond b (guard - 1) 0) ≤ x + 1
+    go true b = omega arith
+    go false true = omega arith
+    go false false = omega arith
