@@ -1,0 +1,66 @@
+// Showing answers: numbers in decimal with a blank before each, and a line's end.
+
+const LINE: [u8; 1] = [b'\n'];
+
+const BLANK: [u8; 1] = [b' '];
+
+// A number.
+pub fn number(n: u64) {
+    io::write_all(1, &BLANK);
+    io::print_decimal(1, n);
+}
+
+// A count or a place.
+pub fn count(n: usize) {
+    number(n as u64);
+}
+
+// The end of a line.
+pub fn end() {
+    io::write_all(1, &LINE);
+}
+
+// Every limb.
+pub fn limbs(l: &[u64]) {
+    for i in 0..l.len() {
+        number(l[i]);
+    }
+}
+
+// A level as a number.
+fn wide(level: u8) -> u64 {
+    level as u64
+}
+
+// Every cell.
+pub fn cells(c: &[u8]) {
+    for i in 0..c.len() {
+        number(wide(c[i]));
+    }
+}
+
+// One number for all limbs, in their order.
+pub fn digest(l: &[u64]) {
+    let mut sum = 0;
+    for i in 0..l.len() {
+        let low = l[i] % 4294967296;
+        let high = l[i] / 4294967296 % 4294967296;
+        sum = ((sum % 4294967291) * 65599 + low) % 4294967291;
+        sum = ((sum % 4294967291) * 65599 + high) % 4294967291;
+    }
+    number(sum);
+}
+
+// Marks every limb, so that it is seen where one was written.
+pub fn mark_limbs(l: &mut [u64]) {
+    for i in 0..l.len() {
+        l[i] = 1000003;
+    }
+}
+
+// Marks every cell.
+pub fn mark_cells(c: &mut [u8]) {
+    for i in 0..c.len() {
+        c[i] = 200;
+    }
+}

@@ -1,0 +1,195 @@
+"""The second program: document 01's calls on one word, answered a second time.
+
+It shares no code with the crates. A word is legal if no forbidden pattern is found in it; counts, indices and words come from listing
+where there are few words. Where there are many, counts come from the printed recursion, an index from the printed weights, and a word
+from the counts of the words that begin as it does. Each answer is a list: the number, the place, and what else the call gives.
+"""
+
+from functools import cache
+from itertools import product
+
+LISTABLE = 4096
+DONE = [0, 0]
+
+PUBLISHED = {
+    4: ("14/27 26/50 49/95 77/149 97/188", "20/38 38/72 57/108 76/144 96/182"),
+    8: ("18/53 26/77 44/131 71/211 103/307", "22/65 32/95 52/154 73/216 108/320"),
+    16: ("18/71 27/107 45/179 66/263 111/443", "24/95 34/135 51/203 73/291 100/399"),
+    32: ("19/94 29/144 49/244 70/349 117/584", "25/124 36/179 56/279 77/384 108/539"),
+}
+ROWS = [(q, x, *map(int, row.split("/"))) for x in (1, 2) for q, rows in PUBLISHED.items() for row in rows[x - 1].split()]
+
+
+def first_pattern(q, x, cells):
+    """The place of the first top of the leftmost forbidden pattern, or None."""
+    top = q - 1
+    for place, cell in enumerate(cells):
+        if cell != top:
+            continue
+        for closing in range(place + 1, min(place + x + 2, len(cells))):
+            if cells[closing] >= top:
+                if closing > place + 1 and cells[closing] == top:
+                    return place
+                break
+    return None
+
+
+@cache
+def listed(q, x, m):
+    """The legal words of m cells in level order."""
+    return [word for word in product(range(q), repeat=m) if first_pattern(q, x, word) is None]
+
+
+@cache
+def count(q, x, m):
+    if q**m <= LISTABLE:
+        return len(listed(q, x, m))
+    last = (q - 1) ** (x + 1) * count(q, x, m - x - 2) if m - x - 2 >= 0 else (q - 1) ** (m - 1)
+    return q * count(q, x, m - 1) - (q - 1) * count(q, x, m - 2) + last
+
+
+def weight(q, x, distance, i):
+    """The weight of a cell with i cells to its right and the nearest top `distance` to its left (0: none)."""
+    g = x - distance + 1 if 1 <= distance <= x else 0
+    return (q - 1) ** g * count(q, x, i - g) if g <= i else (q - 1) ** i
+
+
+def index_of(q, x, word):
+    if q ** len(word) <= LISTABLE:
+        return listed(q, x, len(word)).index(tuple(word))
+    total, last_top = 0, None
+    for place, level in enumerate(word):
+        total += level * weight(q, x, 0 if last_top is None else place - last_top, len(word) - 1 - place)
+        if level == q - 1:
+            last_top = place
+    return total
+
+
+@cache
+def endings(q, x, since_top, left):
+    """How many ways there are to go on for `left` cells, `since_top` cells behind a top (None: none near)."""
+    if left == 0:
+        return 1
+    total = (q - 1) * endings(q, x, None if since_top is None or since_top >= x else since_top + 1, left - 1)
+    if since_top is None or since_top == 0:
+        total += endings(q, x, 0, left - 1)
+    return total
+
+
+def word_of(q, x, m, index):
+    """The legal word with so many before it."""
+    if q**m <= LISTABLE:
+        return list(listed(q, x, m)[index])
+    word, since_top = [], None
+    while len(word) < m:
+        for level in range(q):
+            if level == q - 1:
+                after = 0
+            else:
+                after = None if since_top is None or since_top >= x else since_top + 1
+            if level == q - 1 and since_top not in (None, 0):
+                raise AssertionError("no word has this index")
+            ways = endings(q, x, after, m - len(word) - 1)
+            if index < ways:
+                break
+            index -= ways
+        word.append(level)
+        since_top = after
+    return word
+
+
+def message_length(q, x, m):
+    carrying = count(q, x, m) - 2
+    return 0 if carrying < 1 else carrying.bit_length() - 1
+
+
+def limbs_of(number):
+    return [number >> 64 * i & 2**64 - 1 for i in range(10)]
+
+
+def number_of(limbs):
+    return sum(limb << 64 * i for i, limb in enumerate(limbs))
+
+
+def table_of(q, x, m):
+    return [limb for i in range(m + 1) for limb in limbs_of(count(q, x, i))]
+
+
+def refused_profile(q, m, x):
+    if not 2 <= q <= 32:
+        return [1, 0]
+    if not 1 <= m <= 128:
+        return [2, 0]
+    if not 1 <= x <= 8:
+        return [3, 0]
+    return None
+
+
+def refused_table(q, m, x, table):
+    if len(table) < 10 * (m + 1):
+        return [5, 0]
+    for i in range(m + 1):
+        if table[10 * i : 10 * i + 10] != limbs_of(count(q, x, i)):
+            return [6, i]
+    return None
+
+
+def refused_cells(q, x, cells):
+    for place, cell in enumerate(cells):
+        if cell >= q:
+            return [10, place]
+    place = first_pattern(q, x, cells)
+    return None if place is None else [11, place]
+
+
+def written(refusal, answer, lent):
+    """Number, place, count, and the lent list afterwards."""
+    if refusal:
+        return [*refusal, 0], lent
+    return [*DONE, len(answer)], answer + lent[len(answer) :]
+
+
+def build(q, m, x, lent):
+    refusal = refused_profile(q, m, x) or ([9, 0] if len(lent) < 10 * (m + 1) else None)
+    return written(refusal, [] if refusal else table_of(q, x, m), lent)
+
+
+def shipped(m, lent):
+    refusal = [2, 0] if not 1 <= m <= 128 else [9, 0] if len(lent) < 10 * (m + 1) else None
+    return written(refusal, [] if refusal else table_of(4, 1, m), lent)
+
+
+def index(q, m, x, table, cells):
+    refusal = (
+        refused_profile(q, m, x)
+        or refused_table(q, m, x, table)
+        or ([7, 0] if len(cells) != m else None)
+        or refused_cells(q, x, cells)
+    )
+    return [*refusal, *limbs_of(0)] if refusal else [*DONE, *limbs_of(index_of(q, x, cells))]
+
+
+def word(q, m, x, table, limbs, lent):
+    refusal = refused_profile(q, m, x) or refused_table(q, m, x, table) or ([9, 0] if len(lent) < m else None)
+    refusal = refusal or ([12, 0] if number_of(limbs) >= count(q, x, m) else None)
+    return written(refusal, [] if refusal else word_of(q, x, m, number_of(limbs)), lent)
+
+
+def find(q, x, cells):
+    if not 2 <= q <= 32:
+        return [1, 0]
+    if not 1 <= x <= 8:
+        return [3, 0]
+    if len(cells) > 65536:
+        return [7, 0]
+    return refused_cells(q, x, cells) or DONE
+
+
+def published(row):
+    return [*DONE, *ROWS[row]] if row < len(ROWS) else [12, 0, 0, 0, 0, 0]
+
+
+def rate(q, m, x, table, n):
+    refusal = refused_profile(q, m, x) or ([4, 0] if message_length(q, x, m) == 0 else None) or refused_table(q, m, x, table)
+    refusal = refusal or ([7, 0] if n > 256 else None)
+    return [*refusal, 0, 0] if refusal else [*DONE, n * message_length(q, x, m), n * (m + x)]
