@@ -1,13 +1,13 @@
 -- Laws of the message length of a profile: number 4 is exactly m = 1 with q at most 3, and s comes out of the table.
 use mathlib.Core.Path.{_≡_, refl, _∙_}
-use mathlib.Core.Bool.{Bool, true, false, _||_}
+use mathlib.Core.Bool.{Bool, true, false, _&&_, _||_}
 use mathlib.Core.List.{List, [], _∷_}
 use Prim.Native.Nat.{ℕ, _+_, _-_, _*_, _^_, _≤_, _<_}
 use native.Mathlib.Nat.{zero-add, le-refl, le-of-lt, le-trans, lt-of-le-of-lt, lt-of-not-le, not-le-of-lt, sub-le, pos-of-ne-zero}
 use native.Mathlib.Omega.{arith}
-use lib.Dec.{eqb}
+use lib.Dec.{leb, eqb}
 use lib.Pow.{pow-mono}
-use borrow.Author.Tests.{eqb-false, eq-eqb, ne-eqb}
+use borrow.Author.Tests.{leb-true, leb-false, eqb-true, eqb-false, eq-eqb, ne-eqb}
 use Rattle.limbs.specs.Limbs.{base, value, numberAt, holding}
 use Rattle.limbs.specs.BorrowLaws.{holding-difference}
 use Rattle.limbs.specs.HoldingLaws.{numberAt-holding-below}
@@ -30,18 +30,27 @@ abbrev pub lengthOf : Profile → ℕ
 lengthOf p = messageLength (p .q) (p .x) (p .m)
 
 -- Number 4 for m = 1 with q at most 3.
-pub no-message : (p : Profile) → InRange p → p .m ≡ 1 → p .q ≤ 3 → messageRefusal p ≡ refused 4 0
+no-message : (p : Profile) → InRange p → p .m ≡ 1 → p .q ≤ 3 → messageRefusal p ≡ refused 4 0
 unfolding messageRefusal
 no-message p range one three =
     let none = length-zero (p .q) (p .x) (p .m) (range .levels .least) (range .length .least) .1 (one, three) in rw (eq-eqb (lengthOf p) 0 none)
 
 -- And for no other profile in range.
-pub some-message : (p : Profile) → InRange p → ((p .m ≡ 1) × (p .q ≤ 3) → ⊥) → messageRefusal p ≡ done
+some-message : (p : Profile) → InRange p → ((p .m ≡ 1) × (p .q ≤ 3) → ⊥) → messageRefusal p ≡ done
 unfolding messageRefusal
 some-message p range other =
     let some : lengthOf p ≡ 0 → ⊥ = λ none. other (length-zero (p .q) (p .x) (p .m) (range .levels .least) (range .length .least) .0 none) in
     let four = length-positive (p .q) (p .x) (p .m) .0 (pos-of-ne-zero some) in
     rw (ne-eqb (lengthOf p) 0 some, ne-eqb (wordsOf p - wordsKeptOut) 0 (λ none. omega arith))
+
+-- So it is given by m and q alone.
+pub number-four : (p : Profile) → InRange p → messageRefusal p ≡ refusedIf (eqb (p .m) 1 && leb (p .q) 3) 4
+number-four p range = go (eqb (p .m) 1) (leb (p .q) 3) refl refl
+  where
+    go : (a b : Bool) → eqb (p .m) 1 ≡ a → leb (p .q) 3 ≡ b → messageRefusal p ≡ refusedIf (a && b) 4
+    go true true s t = no-message p range (eqb-true _ 1 s) (leb-true _ 3 t)
+    go true false s t = some-message p range (λ both. omega (arith, leb-false (p .q) 3 t))
+    go false b s t = some-message p range (λ both. eqb-false (p .m) 1 s (both .0))
 
 -- A profile that is not refused has words that carry messages.
 words-carry : (p : Profile) → messageRefusal p .number ≡ 0 → wordsKeptOut < wordsOf p

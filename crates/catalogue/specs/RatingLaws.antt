@@ -1,34 +1,19 @@
--- Laws of the rate: number 7, what is known of a rate that is not refused, and its outcome.
+-- Laws of the rate: what is known of a rate that is not refused, and its outcome.
 use mathlib.Core.Path.{_≡_, refl}
-use mathlib.Core.Bool.{Bool, true, false}
 use mathlib.Core.List.{List}
 use Prim.Native.Nat.{ℕ, _+_, _*_, _≤_, _<_}
 use native.Mathlib.Nat.{le-of-lt, lt-of-le-of-lt, mul-le-mul}
 use native.Mathlib.Omega.{arith}
-use lib.Dec.{ltb, lit<}
-use borrow.Author.Tests.{ltb-false, lt-ltb, le-ltb, eq-eqb, ne-eqb}
+use lib.Dec.{lit<}
+use borrow.Author.Tests.{ltb-false, eq-eqb, ne-eqb}
 use Rattle.limbs.specs.Limbs.{base}
 use Rattle.replies.specs.declared.Reply.{Reply}
 use Rattle.replies.specs.declared.Profile.{Profile}
-use Rattle.replies.specs.Replies.{done, refused, refusedIf}
-use Rattle.replies.specs.ReplyLaws.{both-done, profile-in-range}
+use Rattle.replies.specs.Replies.{done}
+use Rattle.replies.specs.ReplyLaws.{both-done, test-failed, profile-in-range}
 use Rattle.tables.specs.TableLaws.{table-belongs}
 use Rattle.catalogue.specs.LengthLaws.{lengthOf, CarriesMessages, length-below}
 use Rattle.catalogue.specs.Rating.{rateRefusal, rating}
-
--- Number 7.
-pub too-many-words : (n : ℕ) → 256 < n → refusedIf (ltb 256 n) 7 ≡ refused 7 0
-too-many-words n l = rw (lt-ltb 256 n l)
-
-pub few-words : (n : ℕ) → n ≤ 256 → refusedIf (ltb 256 n) 7 ≡ done
-few-words n l = rw (le-ltb 256 n l)
-
-not-too-many : (n : ℕ) → refusedIf (ltb 256 n) 7 .number ≡ 0 → n ≤ 256
-not-too-many n = go (ltb 256 n) refl
-  where
-    go : (b : Bool) → ltb 256 n ≡ b → refusedIf b 7 .number ≡ 0 → n ≤ 256
-    go true t e = absurd (omega arith)
-    go false t e = ltb-false 256 n t
 
 -- What is known of a rate that is not refused: what is worked out fits.
 pub record Rates (p : Profile) (table : List ℕ) (n : ℕ) : Type 0 where
@@ -46,8 +31,8 @@ rate-not-refused p table n e none =
     let first = both-done _ _ (rw e at none) in
     let second = both-done _ _ (first .second) in
     let third = both-done _ _ (second .second) in
-    let range = profile-in-range p (first .first) in
-    let few = not-too-many n (third .second) in
+    let range = profile-in-range p refl (first .first) in
+    let few = ltb-false 256 n (test-failed _ 6 (third .second)) in
     let width : p .m + p .x ≤ 640 = omega (arith, range .length .most, range .reach .most) in
     record {
       ready = record { inRange = range; carries = second .first; belongs = table-belongs p table (third .first) };

@@ -64,7 +64,7 @@ row-right : (r : Published) → passes r ≡ true → RowRight r
 row-right r e =
     let first = and-eq-true-iff _ _ .0 e in
     let second = and-eq-true-iff _ _ .0 (first .1) in
-    let range = profile-in-range (profileOf r) (eqb-true _ _ (second .0)) in
+    let range = profile-in-range (profileOf r) refl (eqb-true _ _ (second .0)) in
     let two = range .levels .least in
     record {
       answered = answered (r .reply) (first .0);

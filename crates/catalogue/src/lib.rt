@@ -72,16 +72,7 @@ pub fn refused_message(p: Profile) -> Reply
     requires { ⌜ InRange p ⌝ }
     ensures { λ r. ⌜ r ≡ messageRefusal p ⌝ }
 {
-    if p.m == 1 && p.q <= 3 {
-        return Reply {
-            number: NO_MESSAGE,
-            place: 0,
-        };
-    }
-    Reply {
-        number: DONE,
-        place: 0,
-    }
+    replies::refused_if((p.m == 1) & (p.q <= 3), NO_MESSAGE)
 }
 
 // The place of the highest bit of a number of ten limbs that is not 0: the largest s with 2^s at
@@ -105,22 +96,6 @@ pub fn message_length(p: Profile, table: &[u64]) -> usize
     highest_bit(&rest)
 }
 
-// Number 7: n above 256.
-fn refused_words(n: usize) -> Reply
-    ensures { λ r. ⌜ r ≡ refusedIf (ltb 256 n) 7 ⌝ }
-{
-    if 256 < n {
-        return Reply {
-            number: INPUT_LENGTH,
-            place: 0,
-        };
-    }
-    Reply {
-        number: DONE,
-        place: 0,
-    }
-}
-
 // The first number that applies to a rate: of the profile, of its message length, of the table, and
 // of n.
 fn refused_rate(p: Profile, table: &[u64], n: usize) -> Reply
@@ -138,7 +113,7 @@ fn refused_rate(p: Profile, table: &[u64], n: usize) -> Reply
     if lent.number != DONE {
         return lent;
     }
-    refused_words(n)
+    replies::refused_if(256 < n, INPUT_LENGTH)
 }
 
 // The rate of n words: bits n s and cells n (m + x).

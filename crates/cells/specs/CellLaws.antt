@@ -4,12 +4,10 @@ use mathlib.Core.Bool.{true}
 use mathlib.Core.List.{List, [], _∷_}
 use Prim.Native.Nat.{ℕ, suc, _≤_, _<_}
 use native.Mathlib.Omega.{arith}
-use lib.Dec.{ltb}
 use lib.ListN.{length, getD}
-use borrow.Author.Tests.{leb-false, le-leb, lt-ltb, le-ltb}
-use Rattle.replies.specs.declared.Reply.{Reply}
-use Rattle.replies.specs.Replies.{done, refused, refusedIf, orElse, outsideRefusal}
-use Rattle.replies.specs.ReplyLaws.{Between, Nowhere, not-refused, both-done, decides, first-refused, none-refused, holds-nowhere, leaves}
+use borrow.Author.Tests.{leb-false, le-leb, lt-ltb}
+use Rattle.replies.specs.Replies.{done, refused}
+use Rattle.replies.specs.ReplyLaws.{Nowhere, both-done, first-refused, none-refused, holds-nowhere}
 use Rattle.listing.specs.Listing.{allBelow}
 use Rattle.patterns.specs.Pattern.{Patterns, patternFree}
 use Rattle.code.specs.Code.{published, legal}
@@ -38,17 +36,6 @@ first-pattern-refused S cells i before here inside = sym (first-refused (pattern
 pub no-pattern-refused : (S : Patterns) (cells : List ℕ) → Nowhere (patternAt S cells) 0 (length cells) → done ≡ patternRefusal S cells
 unfolding patternRefusal
 no-pattern-refused S cells none = sym (none-refused (patternAt S cells) (length cells) 11 none)
-
--- 7 is given where there are more cells than the most that are taken, and only there.
-pub too-many : (most n : ℕ) (rest : Reply) → most < n → refused 7 0 ≡ orElse (refusedIf (ltb most n) 7) rest
-too-many most n rest more = decides (refused 7 0) (refusedIf (ltb most n) 7) rest (rw (lt-ltb most n more)) (λ e. omega arith)
-
-pub few-enough : (most n : ℕ) (r rest : Reply) → n ≤ most → r ≡ rest → r ≡ orElse (refusedIf (ltb most n) 7) rest
-few-enough most n r rest few e = leaves done r (refusedIf (ltb most n) 7) rest (rw (le-ltb most n few)) refl e
-
--- A number that was not refused lies in its range.
-pub in-range : (low high n number : ℕ) (r : Reply) → r ≡ outsideRefusal low high n (suc number) → r .number ≡ 0 → Between low high n
-in-range low high n number r e z = not-refused low high n number (rw e at z)
 
 nowhere-below : (q : ℕ) (cells : List ℕ) → Nowhere (reachesAt q cells) 0 (length cells) → allBelow q cells ≡ true
 nowhere-below q [] none = refl

@@ -20,10 +20,7 @@ pub fn refused_cell(q: usize, cells: &[u8]) -> Reply
     if quick::some_cell(level, cells) {
         return scan::first_cell(level, cells);
     }
-    Reply {
-        number: replies::DONE,
-        place: 0,
-    }
+    replies::done()
 }
 
 // Number 11: the first forbidden pattern, by its first top.
@@ -35,10 +32,7 @@ pub fn refused_pattern(q: usize, x: usize, cells: &[u8]) -> Reply
     if quick::some_pattern(top, x, cells) {
         return scan::first_pattern(top, x, cells);
     }
-    Reply {
-        number: replies::DONE,
-        place: 0,
-    }
+    replies::done()
 }
 
 // 10, then 11.
@@ -66,11 +60,9 @@ pub fn find(q: usize, x: usize, cells: &[u8]) -> Reply
     if reach.number != replies::DONE {
         return reach;
     }
-    if MOST_CELLS < cells.len() {
-        return Reply {
-            number: replies::INPUT_LENGTH,
-            place: 0,
-        };
+    let length = replies::refused_if(MOST_CELLS < cells.len(), replies::INPUT_LENGTH);
+    if length.number != replies::DONE {
+        return length;
     }
     refused_cells(q, x, cells)
 }

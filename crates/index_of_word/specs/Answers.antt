@@ -1,6 +1,6 @@
 -- A word that is not refused: its index may be summed up in the limbs in use of the table's last row, and fills ten limbs.
 use mathlib.Core.Path.{_≡_, refl, ap, sym}
-use mathlib.Core.Bool.{Bool, true, false, not}
+use mathlib.Core.Bool.{not}
 use mathlib.Core.List.{List, _∷_, _++_}
 use Prim.Native.Nat.{ℕ, zero, suc, _+_, _-_, _*_, _/_, _%_, _^_, _≤_, _<_}
 use native.Mathlib.Nat.{le-refl, le-trans, min-le-left, zero-add, lt-trans, div-lt-iff-lt-mul, pow-suc, pow-zero, suc-add}
@@ -14,14 +14,14 @@ use Rattle.limbs.specs.ValueLaws.{base-positive}
 use Rattle.limbs.specs.UsedLaws.{used-length, numberAt-below-used}
 use Rattle.replies.specs.declared.Reply.{Reply}
 use Rattle.replies.specs.declared.Profile.{Profile}
-use Rattle.replies.specs.Replies.{done, refused, refusedIf, profileRefusal}
-use Rattle.replies.specs.ReplyLaws.{both-done, profile-in-range, InRange, decides, leaves}
+use Rattle.replies.specs.Replies.{done, refusedIf, profileRefusal}
+use Rattle.replies.specs.ReplyLaws.{test-failed, both-done, profile-in-range, InRange, decides, leaves}
 use Rattle.listing.specs.Order.{index-below-count}
 use Rattle.code.specs.Code.{N, LegalWord, legal, index}
 use Rattle.cells.specs.Finding.{cellsRefusal}
 use Rattle.cells.specs.CellLaws.{cells-accepted}
 use Rattle.tables.specs.Tables.{Belongs, tableRefusal}
-use Rattle.tables.specs.TableLaws.{table-belongs}
+use Rattle.tables.specs.TableLaws.{not-wrong, table-belongs}
 use Rattle.index_of_word.specs.Indexing.{wordRefusal, indexing}
 use Rattle.index_of_word.specs.Whole.{Indexable, withIndex}
 
@@ -66,24 +66,20 @@ module _ (p : Profile) (table cells : List ℕ) {profile : Reply} (e : profile �
   unfolding wordRefusal
   table-decides {rows} z f n = leaves profile rows _ _ e z (decides rows _ _ f n)
 
-  pub length-decides : {rows : Reply} → profile .number ≡ 0 → rows ≡ tableRefusal p table → rows .number ≡ 0 → (length cells ≡ p .m → ⊥)
-      → refused 7 0 ≡ wordRefusal p table cells
+  pub length-decides : {rows long : Reply} → profile .number ≡ 0 → rows ≡ tableRefusal p table → rows .number ≡ 0
+      → long ≡ refusedIf (not (eqb (length cells) (p .m))) 7 → (long .number ≡ 0 → ⊥) → long ≡ wordRefusal p table cells
   unfolding wordRefusal
-  length-decides {rows} z f y n =
-      leaves profile (refused 7 0) _ _ e z (leaves rows (refused 7 0) _ _ f y (decides (refused 7 0) _ _ (rw (ne-eqb _ _ n)) (λ o. omega arith)))
+  length-decides {rows} {long} z f y g n = leaves profile long _ _ e z (leaves rows long _ _ f y (decides long _ _ g n))
 
-  pub cells-decide : {rows cell : Reply} → profile .number ≡ 0 → rows ≡ tableRefusal p table → rows .number ≡ 0 → length cells ≡ p .m
-      → cell ≡ cellsRefusal (p .q) (p .x) cells → cell ≡ wordRefusal p table cells
+  pub cells-decide : {rows long cell : Reply} → profile .number ≡ 0 → rows ≡ tableRefusal p table → rows .number ≡ 0
+      → long ≡ refusedIf (not (eqb (length cells) (p .m))) 7 → long .number ≡ 0 → cell ≡ cellsRefusal (p .q) (p .x) cells
+      → cell ≡ wordRefusal p table cells
   unfolding wordRefusal
-  cells-decide {rows} {cell} z f y l g = leaves profile cell _ _ e z (leaves rows cell _ _ f y (leaves done cell _ _ (rw (eq-eqb _ _ l)) refl g))
+  cells-decide {rows} {long} {cell} z f y g w h = leaves profile cell _ _ e z (leaves rows cell _ _ f y (leaves long cell _ _ g w h))
 
 -- A word that 7 does not refuse has m cells.
 length-is : (n m : ℕ) → refusedIf (not (eqb n m)) 7 .number ≡ 0 → n ≡ m
-length-is n m = go (eqb n m) refl
-  where
-    go : (b : Bool) → eqb n m ≡ b → refusedIf (not b) 7 .number ≡ 0 → n ≡ m
-    go true s e = eqb-true n m s
-    go false s e = absurd (omega arith)
+length-is n m e = eqb-true n m (not-wrong _ (test-failed _ 6 e))
 
 -- A word that is not refused: the profile is in range, the table belongs to it, and the cells are a legal word.
 pub record NotRefused (p : Profile) (table cells : List ℕ) : Type 0 where
@@ -99,7 +95,7 @@ not-refused-word p table cells e =
     let long = both-done _ _ (rows .second) in
     let accepted = cells-accepted (p .q) (p .x) cells (long .second) in
     record {
-      range = profile-in-range p (profile .first);
+      range = profile-in-range p refl (profile .first);
       belongs = table-belongs p table (rows .first);
       word = record { cells = length-is _ _ (long .first); levelled = accepted .levelled; passes = accepted .passes };
     }

@@ -3,9 +3,8 @@ use mathlib.Core.Path.{_≡_, refl}
 use mathlib.Core.Bool.{Bool, true, false, cond}
 use mathlib.Core.List.{List, [], _∷_}
 use Prim.Native.Nat.{ℕ, suc, _+_, _-_, _*_, _^_, _≤_, _<_}
-use native.Mathlib.Nat.{le-refl, le-trans, min-le-left, mul-le-mul, pow-le-pow-left, pow-le-pow-right, pow-suc, pow-zero}
+use native.Mathlib.Nat.{le-refl, le-trans, min-le-left, mul-le-mul, pow-suc, pow-zero}
 use native.Mathlib.Nat.{sub-zero, sub-self, zero-add, add-zero, add-suc, suc-add}
-use native.Mathlib.Numerals.{add-one}
 use native.Mathlib.Omega.{arith}
 use lib.Arith.{digits-lt}
 use lib.Dec.{ltb, lit<}
@@ -14,6 +13,7 @@ use lib.Seq.{drop-cons}
 use borrow.Author.Tests.{lt-ltb, le-ltb, ltb-true, ltb-false}
 use Rattle.listing.specs.Listing.{allBelow}
 use Rattle.listing.specs.Order.{first-below, rest-below}
+use Rattle.tables.specs.PowerLaws.{power-within}
 use Rattle.index_of_word.specs.Rank.{digits, guardedCells, guardedFactor}
 
 -- Where there are more cells than x behind a top, x of them are guarded and the last weighs t times a row.
@@ -43,14 +43,7 @@ guarded-few {x} {left} {k} l h e = rw e (go (ltb x left) refl)
     go true s = let f = ltb-true x left s in record { most = le-refl x; inside = omega arith; some = l }
     go false s = let f = ltb-false x left s in record { most = f; inside = le-refl left; some = h }
 
--- The power of a top behind a top, step by step.
-pub power-more : (t i : ℕ) {p : ℕ} → p ≡ t ^ i → p * t ≡ t ^ (i + 1)
-power-more t i e = rw (e, add-one, pow-suc t i)
-
--- The number of at most eight guarded cells is at most 31^8, and t times it at most 31^9.
-pub power-within : {t k : ℕ} → t ≤ 31 → k ≤ 8 → t ^ k ≤ 31 ^ 8
-power-within {t} {k} l h = le-trans (pow-le-pow-left l k) (pow-le-pow-right (lit< tt) h)
-
+-- t times the number of at most eight guarded cells is at most 31^9.
 pub times-within : {s t : ℕ} → s ≤ 31 ^ 8 → t ≤ 31 → s * t ≤ 31 ^ 9
 times-within l h = mul-le-mul l h
 

@@ -1,10 +1,8 @@
 -- The index of a whole word, summed up from a table that belongs to the profile.
 use mathlib.Core.Path.{_≡_, _∙_, sym}
-use mathlib.Core.Logic.{⊎-elim}
 use mathlib.Core.Bool.{true}
 use mathlib.Core.List.{List}
-use Prim.Native.Nat.{ℕ, zero, suc, _+_, _-_, _*_, _^_, _≤_, _<_}
-use native.Mathlib.Nat.{le-refl, le-trans, le-suc-iff, lt-of-le-of-lt}
+use Prim.Native.Nat.{ℕ, zero, suc, _+_, _-_, _^_, _≤_, _<_}
 use native.Mathlib.Numerals.{sub-one}
 use native.Mathlib.Omega.{arith}
 use lib.ListN.{length, drop}
@@ -12,10 +10,9 @@ use Rattle.limbs.specs.Limbs.{base, numberAt, holding}
 use Rattle.replies.specs.ReplyLaws.{Between}
 use Rattle.listing.specs.Listing.{allBelow}
 use Rattle.code.specs.Code.{N, legal, index}
-use Rattle.code.specs.Sizes.{count-grows}
 use Rattle.code.specs.Stretches.{following-legal, legal-walks}
 use Rattle.tables.specs.Tables.{Belongs}
-use Rattle.tables.specs.TableLaws.{lowest-limbs}
+use Rattle.tables.specs.TableLaws.{row-stands}
 use Rattle.index_of_word.specs.Rank.{rank-is-index}
 use Rattle.index_of_word.specs.Summing.{Summable, summed}
 
@@ -34,21 +31,6 @@ pub record Indexable (q x n : ℕ) (table cells sum : List ℕ) : Type 0 where
 -- `sum` with the index of a word added to its first n limbs.
 abbrev pub withIndex : ℕ → ℕ → ℕ → List ℕ → List ℕ → List ℕ
 withIndex q x n cells sum = holding n (numberAt n sum 0 + index q x cells) sum
-
--- There are no more shorter words.
-counts-rise : (q x i m : ℕ) → 1 < q → i ≤ m → N q x i ≤ N q x m
-counts-rise q x zero zero l h = le-refl _
-counts-rise q x (suc i) zero l h = absurd (omega arith)
-counts-rise q x i (suc m) l h =
-    ⊎-elim (λ (b : i ≤ m). le-trans (counts-rise q x i m l b) (count-grows q x m l)) (λ (e : i ≡ suc m). rw e (le-refl _)) (le-suc-iff .0 h)
-
--- A row stands in as many limbs as the last one fits.
-pub row-stands : (q x m n : ℕ) (table : List ℕ) → 1 < q → Belongs q x m table → n ≤ 10 → N q x m < base ^ n
-    → (i : ℕ) → i ≤ m → numberAt n table (10 * i) ≡ N q x i
-row-stands q x m n table l b h f i k =
-    let ten : n + (10 - n) ≡ 10 = omega arith in
-    let row : numberAt (n + (10 - n)) table (10 * i) ≡ N q x i = rw ten (b .rows i k) in
-    lowest-limbs n (10 - n) table (10 * i) (rw row (lt-of-le-of-lt (counts-rise q x i m l k) f)) ∙ row
 
 -- The walkers may sum it up from an open stretch, ..
 pub summable : (q x n : ℕ) (table cells sum : List ℕ) → Indexable q x n table cells sum → Summable (q - 1) x n 0 table (drop 0 cells) sum

@@ -35,11 +35,9 @@ fn refused_word(p: Profile, table: &[u64], cells: &[u8]) -> Reply
     if rows.number != replies::DONE {
         return rows;
     }
-    if cells.len() != p.m {
-        return Reply {
-            number: replies::INPUT_LENGTH,
-            place: 0,
-        };
+    let length = replies::refused_if(cells.len() != p.m, replies::INPUT_LENGTH);
+    if length.number != replies::DONE {
+        return length;
     }
     cells::refused_cells(p.q, p.x, cells)
 }
@@ -57,9 +55,8 @@ pub fn index(p: Profile, table: &[u64], cells: &[u8]) -> Ranked
     let n = limbs::limbs_used(table, 10 * p.m, 10);
     add_index(p.q, p.x, table, n, cells, &mut sum);
     let index = Index(sum);
-    let done = Reply {
-        number: replies::DONE,
-        place: 0,
-    };
-    Ranked { reply: done, index }
+    Ranked {
+        reply: replies::done(),
+        index,
+    }
 }

@@ -28,20 +28,6 @@ fn levels(top: u64, cells: &[u8], at: usize, k: usize) -> u64
     number
 }
 
-// The number that a top counts as, followed by guarded cells of level 0: top to the power of k.
-fn power(top: u64, k: usize) -> u64
-    requires { ⌜ (top ≤ 31) × (k ≤ 8) ⌝ }
-    ensures { λ r. ⌜ r ≡ top ^ k ⌝ }
-{
-    let mut number = 1;
-    let mut i = 0;
-    while i < k {
-        number = number * top;
-        i += 1;
-    }
-    number
-}
-
 // Adds k times row r of the table to the first n limbs of `sum`.
 fn add_row(table: &[u64], n: usize, r: usize, k: u64, sum: &mut [u64])
     requires { ⌜ (n ≤ length (now sum)) × (10 * r + n ≤ length (now table)) ⌝ }
@@ -119,7 +105,7 @@ fn guarded_stretch(
     }
     let k = guarded_cells(x, left);
     if cells[at] as u64 == top {
-        let whole = power(top, k);
+        let whole = tables::weights::power(top, k);
         add_guarded(top, x, table, n, left, whole, sum);
         guarded_stretch(top, x, table, n, cells, at + 1, sum);
     } else {

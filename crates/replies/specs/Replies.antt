@@ -1,6 +1,6 @@
 -- Replies: the lowest number that applies to the whole input, with its first place; and what a call that writes leaves.
 -- The numbers are those of document 01.
-use mathlib.Core.Bool.{Bool, true, false, cond, _||_}
+use mathlib.Core.Bool.{Bool, cond, _||_}
 use mathlib.Core.List.{List, _++_}
 use Prim.Native.Nat.{ℕ, zero, suc}
 use lib.Dec.{ltb, eqb}

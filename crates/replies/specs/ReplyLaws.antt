@@ -1,11 +1,11 @@
 -- Laws of replies: which of two tests decides, where a profile that is not refused lies, and the first place at which a test holds.
-use mathlib.Core.Path.{_≡_, refl, _∙_, sym, ap}
+use mathlib.Core.Path.{_≡_, refl, _∙_, sym}
 use mathlib.Core.Bool.{Bool, true, false, cond, _||_, true≢false}
 use mathlib.Core.Logic.{⊎-elim}
 use Prim.Native.Nat.{ℕ, zero, suc, _+_, _≤_, _<_}
 use native.Mathlib.Nat.{eq-or-lt-of-le}
 use native.Mathlib.Omega.{arith}
-use lib.Dec.{ltb, eqb}
+use lib.Dec.{ltb}
 use borrow.Author.Tests.{ltb-false, le-ltb, eqb-true, eq-eqb, ne-eqb}
 use Rattle.replies.specs.declared.Reply.{Reply}
 use Rattle.replies.specs.declared.Profile.{Profile}
@@ -33,19 +33,24 @@ both-done a b = go (isDone a) refl
     go true s e = record { first = eqb-true (a .number) 0 s; second = e }
     go false s e = absurd (true≢false (sym (eq-eqb (a .number) 0 e) ∙ s))
 
+-- A test that does not refuse has failed.
+pub test-failed : (test : Bool) (number : ℕ) → refusedIf test (suc number) .number ≡ 0 → test ≡ false
+test-failed true number e = absurd (omega arith)
+test-failed false number e = refl
+
 -- What is not refused lies from low to high.
 pub record Between (low high n : ℕ) : Type 0 where
   pub least : low ≤ n
   pub most : n ≤ high
 
-pub not-refused : (low high n number : ℕ) → outsideRefusal low high n (suc number) .number ≡ 0 → Between low high n
+pub in-range : (low high n number : ℕ) {r : Reply} → r ≡ outsideRefusal low high n (suc number) → r .number ≡ 0 → Between low high n
 unfolding outsideRefusal
-not-refused low high n number = go (ltb n low) (ltb high n) refl refl
+in-range low high n number e none = go (ltb n low) (ltb high n) refl refl (test-failed (ltb n low || ltb high n) number (rw e at none))
   where
-    go : (a b : Bool) → ltb n low ≡ a → ltb high n ≡ b → refusedIf (a || b) (suc number) .number ≡ 0 → Between low high n
-    go false false s t e = record { least = ltb-false n low s; most = ltb-false high n t }
-    go true b s t e = absurd (omega arith)
-    go false true s t e = absurd (omega arith)
+    go : (a b : Bool) → ltb n low ≡ a → ltb high n ≡ b → (a || b) ≡ false → Between low high n
+    go false false s t f = record { least = ltb-false n low s; most = ltb-false high n t }
+    go true b s t f = absurd (true≢false f)
+    go false true s t f = absurd (true≢false f)
 
 -- A profile that is not refused lies in the range of document 01.
 pub record InRange (p : Profile) : Type 0 where
@@ -53,12 +58,16 @@ pub record InRange (p : Profile) : Type 0 where
   pub length : Between 1 128 (p .m)
   pub reach : Between 1 8 (p .x)
 
-pub profile-in-range : (p : Profile) → profileRefusal p .number ≡ 0 → InRange p
+pub profile-in-range : (p : Profile) {r : Reply} → r ≡ profileRefusal p → r .number ≡ 0 → InRange p
 unfolding profileRefusal
-profile-in-range p e =
-    let a = both-done _ _ e in
+profile-in-range p e none =
+    let a = both-done _ _ (rw e at none) in
     let b = both-done _ _ (a .second) in
-    record { levels = not-refused 2 32 (p .q) 0 (a .first); length = not-refused 1 128 (p .m) 1 (b .first); reach = not-refused 1 8 (p .x) 2 (b .second) }
+    record {
+      levels = in-range 2 32 (p .q) 0 refl (a .first);
+      length = in-range 1 128 (p .m) 1 refl (b .first);
+      reach = in-range 1 8 (p .x) 2 refl (b .second);
+    }
 
 -- An output is not refused where it has room, and only there.
 pub room-enough : (needed lent : ℕ) → needed ≤ lent → roomRefusal needed lent ≡ done
@@ -67,11 +76,7 @@ room-enough needed lent l = rw (le-ltb lent needed l)
 
 pub has-room : (needed lent : ℕ) → roomRefusal needed lent .number ≡ 0 → needed ≤ lent
 unfolding roomRefusal
-has-room needed lent = go (ltb lent needed) refl
-  where
-    go : (t : Bool) → ltb lent needed ≡ t → refusedIf t 9 .number ≡ 0 → needed ≤ lent
-    go true s e = absurd (omega arith)
-    go false s e = ltb-false lent needed s
+has-room needed lent e = ltb-false lent needed (test-failed _ 8 e)
 
 -- A test that holds at none of the places from `place` to below `end`.
 abbrev pub Nowhere : (ℕ → Bool) → ℕ → ℕ → Type 0

@@ -17,7 +17,6 @@ use Rattle.limbs.specs.ValueLaws.{value-limbsOf-below}
 use Rattle.replies.specs.declared.Profile.{Profile}
 use Rattle.replies.specs.Replies.{refused}
 use Rattle.replies.specs.ReplyLaws.{InRange}
-use Rattle.code.specs.Code.{N}
 use Rattle.tables.specs.declared.counting.Stage.{Stage}
 use Rattle.tables.specs.Tables.{tableLength, rowRight, Belongs, tableRefusal}
 use Rattle.tables.specs.TableLaws.{not-wrong, not-right, table-wrong, belongs-first, belongs-more}

@@ -10,3 +10,4 @@ pub mod CheckLaws
 pub mod RowLaws
 pub mod WritingLaws
 pub mod OtherReach
+pub mod PowerLaws

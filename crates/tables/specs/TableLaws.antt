@@ -4,25 +4,18 @@ use mathlib.Core.Bool.{Bool, true, false, not, true≢false}
 use mathlib.Core.List.{List}
 use mathlib.Core.Logic.{⊎-elim}
 use Prim.Native.Nat.{ℕ, zero, suc, _+_, _*_, _^_, _≤_, _<_}
-use native.Mathlib.Nat.{eq-or-lt-of-le, add-zero, add-suc, le-add-right, mul-zero, mul-suc, pow-le-pow-right}
+use native.Mathlib.Nat.{eq-or-lt-of-le, lt-of-le-of-lt}
 use native.Mathlib.Omega.{arith}
-use lib.Dec.{ltb}
-use lib.ListN.{length, getD}
+use lib.ListN.{length}
 use borrow.Author.Tests.{ltb-false, lt-ltb, le-ltb, eqb-true, eq-eqb}
 use Rattle.limbs.specs.Limbs.{base, numberAt}
-use Rattle.limbs.specs.ValueLaws.{numberAt-more, base-positive}
+use Rattle.limbs.specs.ValueLaws.{lowest-limbs}
 use Rattle.replies.specs.declared.Profile.{Profile}
-use Rattle.replies.specs.Replies.{done, refused, refusedIf, refusedAtFirst, orElse}
-use Rattle.replies.specs.ReplyLaws.{both-done, holds-nowhere, first-refused, none-refused}
+use Rattle.replies.specs.Replies.{done, refused, refusedAtFirst, orElse}
+use Rattle.replies.specs.ReplyLaws.{both-done, test-failed, holds-nowhere, first-refused, none-refused}
 use Rattle.code.specs.Code.{N}
+use Rattle.code.specs.Sizes.{counts-rise}
 use Rattle.tables.specs.Tables.{tableLength, rowRight, Belongs, tableRefusal}
-
-not-short : (n k : ℕ) → refusedIf (ltb n k) 5 .number ≡ 0 → k ≤ n
-not-short n k = go (ltb n k) refl
-  where
-    go : (t : Bool) → ltb n k ≡ t → refusedIf t 5 .number ≡ 0 → k ≤ n
-    go true s e = absurd (omega arith)
-    go false s e = ltb-false n k s
 
 -- A row is right or wrong.
 pub not-wrong : (right : Bool) → not right ≡ false → right ≡ true
@@ -40,7 +33,7 @@ table-belongs p table e =
     let b = both-done _ _ e in
     let none = holds-nowhere (λ i. not (rowRight (p .q) (p .x) table i)) (p .m + 1) 5 (b .second) in
     record {
-      long = not-short (length table) (tableLength (p .m)) (b .first);
+      long = ltb-false _ _ (test-failed _ 4 (b .first));
       rows = λ i l. eqb-true _ _ (not-wrong _ (none i (omega arith) (omega arith)));
     }
 
@@ -75,16 +68,13 @@ pub belongs-more : (q x i : ℕ) (table : List ℕ) → Belongs q x i table → 
 belongs-more q x i table b long e =
     record { long = long; rows = λ k l. ⊎-elim (λ (s : k ≡ i + 1). rw s e) (λ (s : k < i + 1). b .rows k (omega arith)) (eq-or-lt-of-le l) }
 
-no-limb-above : (a small power limb : ℕ) → small ≤ power → a + power * limb < small → power * limb ≡ 0
-no-limb-above a small power zero l h = rw mul-zero
-no-limb-above a small power (suc limb) l h = let e = mul-suc power limb in absurd (omega arith)
+-- A table that belongs to m cells belongs to fewer.
+pub belongs-fewer : (q x i m : ℕ) (table : List ℕ) → i ≤ m → Belongs q x m table → Belongs q x i table
+belongs-fewer q x i m table l b = record { long = let g = b .long in omega arith; rows = λ j h. b .rows j (omega arith) }
 
--- A number that fits its n lowest limbs is what they hold.
-pub lowest-limbs : (n k : ℕ) (limbs : List ℕ) (at : ℕ) → numberAt (n + k) limbs at < base ^ n → numberAt n limbs at ≡ numberAt (n + k) limbs at
-lowest-limbs n zero limbs at l = rw add-zero
-lowest-limbs n (suc k) limbs at l =
-    let split = numberAt-more (n + k) limbs at in
-    let more = pow-le-pow-right base-positive (le-add-right n k) in
-    let none = no-limb-above (numberAt (n + k) limbs at) _ _ (getD limbs (at + (n + k)) 0) more (rw (add-suc, split) at l) in
-    let same : numberAt (suc (n + k)) limbs at ≡ numberAt (n + k) limbs at = split ∙ rw (none, add-zero) in
-    rw (add-suc, same) (lowest-limbs n k limbs at (rw (add-suc, same) at l))
+-- A row stands in as many limbs as the last one fits.
+pub row-stands : (q x m n : ℕ) (table : List ℕ) → 1 < q → Belongs q x m table → n ≤ 10 → N q x m < base ^ n
+    → (i : ℕ) → i ≤ m → numberAt n table (10 * i) ≡ N q x i
+row-stands q x m n table l b few fits i h =
+    let right = b .rows i h in
+    lowest-limbs n 10 table (10 * i) few (rw right (lt-of-le-of-lt (counts-rise q x i m l h) fits)) ∙ right

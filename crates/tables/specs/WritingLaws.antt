@@ -1,13 +1,12 @@
 -- Laws of a call that writes a table: what it answers and leaves in the lent list where it is refused, and where it is done.
-use mathlib.Core.Path.{_≡_, refl, sym, _∙_}
-use mathlib.Core.List.{List, _++_}
+use mathlib.Core.Path.{_≡_, sym, _∙_}
+use mathlib.Core.List.{List}
 use Prim.Native.Nat.{ℕ, _+_, _≤_}
-use lib.ListN.{length, drop}
+use lib.ListN.{length}
 use borrow.Author.Tests.{eq-eqb}
-use Rattle.replies.specs.declared.Profile.{Profile}
 use Rattle.replies.specs.declared.Reply.{Reply}
-use Rattle.replies.specs.Replies.{done, orElse, lengthRefusal, profileRefusal, roomRefusal, Outcome, writing}
-use Rattle.replies.specs.ReplyLaws.{BothDone, both-done, Between, InRange, not-refused, profile-in-range, has-room, room-enough}
+use Rattle.replies.specs.Replies.{done, orElse, roomRefusal, Outcome, writing}
+use Rattle.replies.specs.ReplyLaws.{BothDone, both-done, has-room, room-enough}
 use Rattle.replies.specs.WritingLaws.{Comes, writing-refused, writing-done}
 use Rattle.tables.specs.Tables.{tableLength, tableOf}
 use Rattle.tables.specs.Rows.{frontRows}
@@ -44,10 +43,3 @@ module _ (q x m : ℕ) (lent : List ℕ) {reply handed test : Reply} (given : ha
         → Comes (tableWriting q x m test lent) (record { reply = reply; count = tableLength m }) after
     table-written a =
         rw reply-done (writing-done reply _ (tableOf q x m) lent decided taken (sym (length-table q x m)) (a ∙ table-front q x m lent))
-
--- What tests that do not refuse say.
-pub range-found : (p : Profile) {reply : Reply} → reply ≡ profileRefusal p → reply .number ≡ 0 → InRange p
-range-found p e z = profile-in-range p (rw e at z)
-
-pub length-found : (m : ℕ) {reply : Reply} → reply ≡ lengthRefusal m → reply .number ≡ 0 → Between 1 128 m
-length-found m e z = not-refused 1 128 m 1 (rw e at z)

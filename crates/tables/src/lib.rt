@@ -16,6 +16,7 @@ use replies::Written;
 mod counting;
 mod rows;
 mod shipped_rows;
+pub mod weights;
 
 // Row i of a table does not hold a number of ten limbs.
 fn row_wrong(number: &[u64], table: &[u64], i: usize) -> bool

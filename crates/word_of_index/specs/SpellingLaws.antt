@@ -16,8 +16,8 @@ use Rattle.limbs.specs.OrderLaws.{Ordered, order-says}
 use Rattle.numbers.specs.declared.Index.{Index}
 use Rattle.replies.specs.declared.Reply.{Reply}
 use Rattle.replies.specs.declared.Profile.{Profile}
-use Rattle.replies.specs.Replies.{done, refusedIf}
-use Rattle.replies.specs.ReplyLaws.{InRange, both-done, profile-in-range, has-room}
+use Rattle.replies.specs.Replies.{done}
+use Rattle.replies.specs.ReplyLaws.{test-failed, InRange, both-done, profile-in-range, has-room}
 use Rattle.code.specs.Code.{N, word}
 use Rattle.code.specs.Laws.{one-word-of-index}
 use Rattle.tables.specs.Tables.{Belongs}
@@ -49,13 +49,6 @@ index-compared {q} {x} {m} {table} index b ten {found} {order} e f =
     let right = b .rows m (le-refl m) in
     not-less (value index) (N q x m) order (rw (← f) (rw (whole, right) at (order-says _ _ e)))
 
-not-above : (n i : ℕ) → refusedIf (leb n i) 12 .number ≡ 0 → i < n
-not-above n i = go (leb n i) refl
-  where
-    go : (b : Bool) → leb n i ≡ b → refusedIf b 12 .number ≡ 0 → i < n
-    go true s e = absurd (omega arith)
-    go false s e = leb-false n i s
-
 -- What holds where nothing is refused.
 pub record Accepted (p : Profile) (table : List ℕ) (i : Index) (lent : List ℕ) : Type 0 where
   pub range : InRange p
@@ -71,10 +64,10 @@ accepted p table i lent e z =
     let table-first = both-done _ _ (profile .second) in
     let room-first = both-done _ _ (table-first .second) in
     record {
-      range = profile-in-range p (profile .first);
+      range = profile-in-range p refl (profile .first);
       belongs = table-belongs p table (table-first .first);
       room = has-room _ _ (room-first .first);
-      below = not-above _ _ (room-first .second);
+      below = leb-false _ _ (test-failed _ 11 (room-first .second));
     }
 
 -- A refusal writes nothing.

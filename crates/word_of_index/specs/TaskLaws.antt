@@ -8,7 +8,7 @@ use native.Mathlib.Numerals.{sub-one}
 use native.Mathlib.Omega.{arith}
 use lib.ListN.{length, take, drop, replicate, length-take}
 use Rattle.limbs.specs.Limbs.{base, value, numberAt, holding, allLimbs, used}
-use Rattle.limbs.specs.ValueLaws.{numberAt-below}
+use Rattle.limbs.specs.ValueLaws.{numberAt-below, lowest-limbs}
 use Rattle.limbs.specs.HoldingLaws.{length-holding, numberAt-holding-below}
 use Rattle.limbs.specs.UsedLaws.{used-length, numberAt-below-used}
 use Rattle.replies.specs.declared.Profile.{Profile}
@@ -16,29 +16,15 @@ use Rattle.replies.specs.ReplyLaws.{InRange}
 use Rattle.patterns.specs.Walk.{guardAfter}
 use Rattle.listing.specs.Listing.{wordOf}
 use Rattle.code.specs.Code.{published, N, word}
+use Rattle.code.specs.Sizes.{counts-rise}
 use Rattle.code.specs.Stretches.{following, legal-walks}
 use Rattle.tables.specs.Tables.{Belongs}
-use Rattle.tables.specs.TableLaws.{lowest-limbs}
+use Rattle.tables.specs.TableLaws.{belongs-fewer, row-stands}
 use Rattle.division.specs.Division.{timesIn, leftOver}
 use Rattle.word_of_index.specs.Settling.{Goes, times-go, level-first, left-follows}
 use Rattle.word_of_index.specs.Tasks.{wordBehind, weightBehind, lowCells, levelOf, leftBy, Task}
-use Rattle.word_of_index.specs.WeightLaws.{counts-rise, open-legal, most-open, guard-within}
+use Rattle.word_of_index.specs.WeightLaws.{open-legal, most-open, guard-within}
 use Rattle.word_of_index.specs.WeightLaws.{weight-open, weight-guarded, weight-positive, weight-within}
-
--- A table that belongs to m cells belongs to fewer.
-belongs-fewer : (q x i m : ℕ) (table : List ℕ) → i ≤ m → Belongs q x m table → Belongs q x i table
-belongs-fewer q x i m table l b = record { long = let g = b .long in omega arith; rows = λ j h. b .rows j (omega arith) }
-
--- A number of k limbs, by as few of them as hold it.
-lowest-of : (n k : ℕ) (limbs : List ℕ) (at : ℕ) → n ≤ k → numberAt k limbs at < base ^ n → numberAt n limbs at ≡ numberAt k limbs at
-lowest-of n k limbs at h l = let e : n + (k - n) ≡ k = omega arith in rw e at (lowest-limbs n (k - n) limbs at (rw e l))
-
--- A row stands in as many limbs as the last one fits.
-row-stands : (q x m n : ℕ) (table : List ℕ) → 1 < q → Belongs q x m table → n ≤ 10 → N q x m < base ^ n
-    → (i : ℕ) → i ≤ m → numberAt n table (10 * i) ≡ N q x i
-row-stands q x m n table l b few fits i h =
-    let right = b .rows i h in
-    lowest-of n 10 table (10 * i) few (rw right (lt-of-le-of-lt (counts-rise q x i m l h) fits)) ∙ right
 
 -- Limbs that are all 0 hold 0.
 zeros-hold : (n k : ℕ) → numberAt n (replicate k 0) 0 ≡ 0
@@ -113,7 +99,7 @@ module _ {q x guard left : ℕ} {table : List ℕ} {n : ℕ} {rest : List ℕ} (
       let no-more : k ≤ n = rw e (omega (arith, used-length (take n (drop (10 * left) table)), length-take n (drop (10 * left) table))) in
       let holds : N q x left < base ^ k = rw (e, ← row-right left (le-refl left)) (numberAt-below-used n table (10 * left) all) in
       let small = lt-of-lt-of-le (lt-of-lt-of-le (task .below) (most-open q x guard left least)) (le-of-lt holds) in
-      let same = lowest-of k n rest 0 no-more small in
+      let same = lowest-limbs k n rest 0 no-more small in
       record {
         task = record {
           levels = task .levels;

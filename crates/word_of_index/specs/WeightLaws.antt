@@ -1,32 +1,19 @@
 -- Laws of weights and guards: a weight is a row of the table, or an earlier row times a power, and it fits where the row fits.
 use mathlib.Core.Path.{_≡_, refl, _∙_}
-use mathlib.Core.Logic.{⊎-elim}
 use mathlib.Core.Bool.{Bool, true, false, cond}
 use Prim.Native.Nat.{ℕ, zero, suc, _+_, _-_, _*_, _^_, min, _≤_, _<_}
-use native.Mathlib.Nat.{le-trans, lt-of-le-of-lt, le-refl, le-suc-iff, mul-comm, one-mul, mul-pos, sub-self}
-use native.Mathlib.Nat.{pow-suc, one-le-pow, pow-le-pow-left, pow-le-pow-right}
+use native.Mathlib.Nat.{mul-comm, one-mul, mul-pos, sub-self}
+use native.Mathlib.Nat.{one-le-pow}
 use native.Mathlib.Numerals.{sub-one, add-one}
 use native.Mathlib.Omega.{arith}
-use lib.Dec.{ltb, leb, eqb, lit≤, lit<}
+use lib.Dec.{ltb, leb, eqb}
 use borrow.Author.Tests.{leb-true, leb-false, eq-eqb, ne-eqb, lt-ltb}
-use Rattle.limbs.specs.Limbs.{base}
 use Rattle.patterns.specs.Walk.{guardAfter}
 use Rattle.code.specs.Code.{published, N}
 use Rattle.code.specs.Stretches.{following, following-legal, following-most, following-weight}
+use Rattle.code.specs.Sizes.{count-positive}
 use Rattle.code.specs.Theorem1.{count-of-no-cells}
-use Rattle.code.specs.Sizes.{count-grows}
 use Rattle.word_of_index.specs.Tasks.{weightBehind, lowCells}
-
--- More cells have no fewer words, and there is always one.
-pub counts-rise : (q x i m : ℕ) → 1 < q → i ≤ m → N q x i ≤ N q x m
-counts-rise q x i zero l h = let e : i ≡ 0 = omega arith in rw e (le-refl _)
-counts-rise q x i (suc m) l h = ⊎-elim
-    (λ (b : i ≤ m). le-trans (counts-rise q x i m l b) (count-grows q x m l))
-    (λ (e : i ≡ suc m). rw e (le-refl _))
-    (le-suc-iff .0 h)
-
-count-positive : (q x m : ℕ) → 1 < q → 0 < N q x m
-count-positive q x m l = rw (count-of-no-cells q x (omega arith)) at (counts-rise q x 0 m l (omega arith))
 
 -- In an open stretch the legal words may follow, and nowhere may more.
 pub open-legal : (q x m : ℕ) → 1 < q → following (q - 1) x 0 m ≡ N q x m
@@ -70,13 +57,6 @@ weight-positive q x guard i l h =
 pub weight-within : (q x guard i : ℕ) → 1 < q → weightBehind q x guard i ≤ N q x i
 unfolding weightBehind
 weight-within q x guard i l = most-open q x (guard - 1) i l
-
--- The power is a limb, and is made one factor at a time.
-pub power-fits : {t k : ℕ} → t ≤ 31 → k ≤ 8 → t ^ k < base
-power-fits {t} {k} l h = lt-of-le-of-lt (le-trans (pow-le-pow-left l k) (pow-le-pow-right (lit≤ tt) h)) (lit< {m = 31 ^ 8} {n = 2 ^ 64} tt)
-
-pub power-more : (t i : ℕ) {p : ℕ} → p ≡ t ^ i → p * t ≡ t ^ (i + 1)
-power-more t i e = rw (e, add-one, pow-suc t i)
 
 -- The guard behind a top, and behind a level below it.
 pub guard-behind-top : (q x guard : ℕ) {level : ℕ} → level ≡ q - 1 → x + 1 ≡ guardAfter (published q x) guard level

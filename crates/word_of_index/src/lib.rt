@@ -18,20 +18,6 @@ use replies::Profile;
 use replies::Reply;
 use replies::Written;
 
-// Top to the power of k.
-fn power(top: u64, k: usize) -> u64
-    requires { ⌜ (top ≤ 31) × (k ≤ 8) ⌝ }
-    ensures { λ r. ⌜ r ≡ top ^ k ⌝ }
-{
-    let mut number = 1;
-    let mut i = 0;
-    while i < k {
-        number = number * top;
-        i += 1;
-    }
-    number
-}
-
 // How many of the i cells on the right of a cell below top have to be below top as well.
 fn low_cells(guard: usize, i: usize) -> usize
     requires { ⌜ 1 ≤ guard ⌝ }
@@ -57,7 +43,13 @@ fn settle_guarded(
     let top = (p.q - 1) as u64;
     let k = low_cells(guard, left - 1);
     let mut weight = [0u64; 10];
-    limbs::add_multiple(&mut weight, n, table, 10 * (left - 1 - k), power(top, k));
+    limbs::add_multiple(
+        &mut weight,
+        n,
+        table,
+        10 * (left - 1 - k),
+        tables::weights::power(top, k),
+    );
     division::divide(rest, n, &weight, 0, top)
 }
 

@@ -4,11 +4,11 @@ use borrow.Author.Needs.{needs}
 use Rattle.replies.specs.declared.Reply.{Reply}
 use Rattle.replies.specs.Replies.{orElse, profileRefusal}
 use Rattle.replies.specs.ReplyLaws.{InRange, decides, leaves, profile-in-range}
+use Rattle.replies.proofs.refused_if.Reads as refused-if-reads
 use Rattle.replies.proofs.refused_profile.Reads as refused-profile-reads
 use Rattle.tables.proofs.refused_table.Reads as refused-table-reads
 use Rattle.catalogue.specs.Rating.{messageRefusal, rateRefusal}
 use Rattle.catalogue.proofs.refused_message.Reads as refused-message-reads
-use Rattle.catalogue.proofs.refused_words.Reads as refused-words-reads
 use Rattle.catalogue.proofs.refused_rate.Lts as lts
 use Rattle.catalogue.proofs.refused_rate.Reads as reads
 use Rattle.catalogue.proofs.refused_rate.Statement.{statement}
@@ -23,13 +23,13 @@ claims = (
   refused-message-reads.Learnt,
   refused-table-reads.Asked,
   refused-table-reads.Learnt,
-  refused-words-reads.Asked,
-  refused-words-reads.Learnt,
+  refused-if-reads.Asked,
+  refused-if-reads.Learnt,
 )
 
 -- A profile that is not refused is in range, and leaves the reply to the tests that follow.
 in-range : (c : lts.Else1 claims reads.Pre reads.Post) → InRange (c .before .before .before .before .args .p)
-in-range c = profile-in-range _ (rw (c .before .before .refused-profile .ensures) at (c .if1 .left))
+in-range c = profile-in-range _ (c .before .before .refused-profile .ensures) (c .if1 .left)
 
 after-profile : {r s : Reply} (c : lts.Else1 claims reads.Pre reads.Post)
     → r ≡ s → r ≡ orElse (profileRefusal (c .before .before .before .before .args .p)) s
@@ -62,15 +62,15 @@ returns-3 : tie.Need-returns-3
 unfolding rateRefusal
 returns-3 c = after-message (c .before .before .before) (decides _ _ _ (c .before .before .refused-table .ensures) (c .if3 .taken))
 
-refused-words-requires : tie.Need-refused-words-requires
-refused-words-requires c κs = search needs
+refused-if-requires : tie.Need-refused-if-requires
+refused-if-requires c κs = search needs
 
 returns-4 : tie.Need-returns-4
 unfolding rateRefusal
 returns-4 c =
     let lent = c .before in
     after-message (lent .before .before .before)
-    (leaves _ _ _ _ (lent .before .before .refused-table .ensures) (lent .if3 .left) (c .refused-words .ensures))
+    (leaves _ _ _ _ (lent .before .before .refused-table .ensures) (lent .if3 .left) (c .refused-if .ensures))
 
 pub refused-rate-spec : {M : Type 1} → statement M
 refused-rate-spec =
@@ -82,5 +82,5 @@ refused-rate-spec =
     returns-2
     refused-table-requires
     returns-3
-    refused-words-requires
+    refused-if-requires
     returns-4)

@@ -40,11 +40,16 @@ add-index-requires c κs =
     rw (c .before .limbs-used .ensures)
     (indexable _ _ _ (table-limbs d) (not-refused d))
 
+done-requires : tie.Need-done-requires
+done-requires c κs = search needs
+
 returns-2 : tie.Need-returns-2
 returns-2 c =
-    let d = c .before .before .before .before .before in
+    let b = c .before in
+    let d = b .before .before .before .before .before in
     let whole = index-whole _ _ _ (table-limbs d) (not-refused d) in
-    indexing-done _ _ _ (none-refused d) (rw (c .before .before .before .limbs-used .ensures) at (c .before .add-index .ensures) ∙ whole)
+    let sum = rw (b .before .before .before .limbs-used .ensures) at (b .before .add-index .ensures) in
+    rw (c .done .ensures) (indexing-done _ _ _ (none-refused d) (sum ∙ whole))
 
 pub index-spec : {M : Type 1} → statement M
 index-spec =
@@ -56,4 +61,5 @@ index-spec =
     limbs-used-requires
     slice-aggregate-add-index
     add-index-requires
+    done-requires
     returns-2)

@@ -12,8 +12,7 @@ returns : tie.Need-returns
 returns c = profile-decides _ _ _ (c .before .before .refused-profile .ensures) (c .if1 .taken)
 
 refused-table-requires : tie.Need-refused-table-requires
-refused-table-requires c κs =
-    profile-in-range (c .before .before .before .before .before .args .p) (rw (c .before .before .refused-profile .ensures) at (c .if1 .left))
+refused-table-requires c κs = profile-in-range _ (c .before .before .refused-profile .ensures) (c .if1 .left)
 
 returns-2 : tie.Need-returns-2
 returns-2 c =
@@ -21,23 +20,28 @@ returns-2 c =
     table-decides _ _ _ (first .before .before .refused-profile .ensures) (first .if1 .left)
     (c .before .before .refused-table .ensures) (c .if2 .taken)
 
+refused-if-requires : tie.Need-refused-if-requires
+refused-if-requires c κs = search needs
+
 returns-3 : tie.Need-returns-3
 returns-3 c =
-    let second = c .before .before in
+    let second = c .before .before .before .before in
     let first = second .before .before .before in
     length-decides _ _ _ (first .before .before .refused-profile .ensures) (first .if1 .left)
-    (second .before .before .refused-table .ensures) (second .if2 .left) (c .if3 .taken)
+    (second .before .before .refused-table .ensures) (second .if2 .left) (c .before .before .refused-if .ensures) (c .if3 .taken)
 
 refused-cells-requires : tie.Need-refused-cells-requires
 refused-cells-requires c κs =
-    let range = refused-table-requires (c .before .before .before .before .before) κs in (range .levels, range .reach)
+    let range = refused-table-requires (c .before .before .before .before .before .before .before) κs in (range .levels, range .reach)
 
 returns-4 : tie.Need-returns-4
 returns-4 c =
-    let second = c .before .before .before in
+    let third = c .before in
+    let second = third .before .before .before .before in
     let first = second .before .before .before in
     cells-decide _ _ _ (first .before .before .refused-profile .ensures) (first .if1 .left)
-    (second .before .before .refused-table .ensures) (second .if2 .left) (c .before .if3 .left) (c .refused-cells .ensures)
+    (second .before .before .refused-table .ensures) (second .if2 .left)
+    (third .before .before .refused-if .ensures) (third .if3 .left) (c .refused-cells .ensures)
 
 pub refused-word-spec : {M : Type 1} → statement M
 refused-word-spec =
@@ -47,6 +51,7 @@ refused-word-spec =
     returns
     refused-table-requires
     returns-2
+    refused-if-requires
     returns-3
     refused-cells-requires
     returns-4)

@@ -1,8 +1,9 @@
 -- `tables::build` meets its contract: the first test that refuses decides, and else the whole table is written.
 use native.Mathlib.Omega.{arith}
 use borrow.Author.Needs.{needs}
+use Rattle.replies.specs.ReplyLaws.{profile-in-range}
 use Rattle.tables.specs.Tables.{building}
-use Rattle.tables.specs.WritingLaws.{table-refused, handed-done, room-found, table-written, range-found}
+use Rattle.tables.specs.WritingLaws.{table-refused, handed-done, room-found, table-written}
 use Rattle.tables.proofs.build.Statement.{statement}
 use Rattle.tables.proofs.build.Tie as tie
 
@@ -10,7 +11,7 @@ refused-profile-requires : tie.Need-refused-profile-requires
 refused-profile-requires c κs = search needs
 
 refused-requires : tie.Need-refused-requires
-refused-requires c κs = λ taken. range-found _ (c .refused-profile .ensures) taken .length .most
+refused-requires c κs = λ taken. profile-in-range _ (c .refused-profile .ensures) taken .length .most
 
 returns : tie.Need-returns
 unfolding building
@@ -26,7 +27,7 @@ build-requires c κs =
     let taken = c .before .if1 .left in
     let handed = handed-done (s .p .q) (s .p .x) (s .p .m) (s .out .now) (r .before .refused-profile .ensures) (r .refused .ensures) taken in
     let room = room-found (s .p .q) (s .p .x) (s .p .m) (s .out .now) (r .before .refused-profile .ensures) (r .refused .ensures) taken in
-    (range-found _ (r .before .refused-profile .ensures) handed, room)
+    (profile-in-range _ (r .before .refused-profile .ensures) handed, room)
 
 add-t5 : tie.Need-add-t5
 add-t5 c =

@@ -1,8 +1,9 @@
 -- `tables::shipped` meets its contract: the first test that refuses decides, and else the whole table is written.
 use native.Mathlib.Omega.{arith}
 use borrow.Author.Needs.{needs}
+use Rattle.replies.specs.ReplyLaws.{in-range}
 use Rattle.tables.specs.Tables.{handingOut}
-use Rattle.tables.specs.WritingLaws.{table-refused, handed-done, room-found, table-written, length-found}
+use Rattle.tables.specs.WritingLaws.{table-refused, handed-done, room-found, table-written}
 use Rattle.tables.proofs.shipped.Statement.{statement}
 use Rattle.tables.proofs.shipped.Tie as tie
 
@@ -10,7 +11,7 @@ refused-length-requires : tie.Need-refused-length-requires
 refused-length-requires c κs = search needs
 
 refused-requires : tie.Need-refused-requires
-refused-requires c κs = λ taken. length-found _ (c .refused-length .ensures) taken .most
+refused-requires c κs = λ taken. in-range 1 128 _ 1 (c .refused-length .ensures) taken .most
 
 returns : tie.Need-returns
 unfolding handingOut
@@ -26,7 +27,7 @@ copy-requires c κs =
     let taken = c .before .if1 .left in
     let handed = handed-done 4 1 (s .m) (s .out .now) (r .before .refused-length .ensures) (r .refused .ensures) taken in
     let room = room-found 4 1 (s .m) (s .out .now) (r .before .refused-length .ensures) (r .refused .ensures) taken in
-    (length-found _ (r .before .refused-length .ensures) handed .most, room)
+    (in-range 1 128 _ 1 (r .before .refused-length .ensures) handed .most, room)
 
 add-t5 : tie.Need-add-t5
 add-t5 c =

@@ -27,7 +27,7 @@ unfolding indexRefusal
 returns c = decides _ _ _ (c .before .before .refused-profile .ensures) (c .if1 .taken)
 
 refused-table-requires : tie.Need-refused-table-requires
-refused-table-requires c κs = profile-in-range _ (rw (c .before .before .refused-profile .ensures) at (c .if1 .left))
+refused-table-requires c κs = profile-in-range _ (c .before .before .refused-profile .ensures) (c .if1 .left)
 
 returns-2 : tie.Need-returns-2
 unfolding indexRefusal

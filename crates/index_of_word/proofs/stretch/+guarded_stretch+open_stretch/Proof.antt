@@ -11,7 +11,8 @@ use borrow.Fn.Kinds.{In}
 use borrow.Fn.PlainCycle.{Measures, is, falls, and}
 use Rattle.limbs.specs.Limbs.{allLimbs}
 use Rattle.listing.specs.Listing.{allBelow}
-use Rattle.index_of_word.specs.Levels.{Few, guarded-few, power-within, digits-within}
+use Rattle.tables.specs.PowerLaws.{power-within}
+use Rattle.index_of_word.specs.Levels.{Few, guarded-few, digits-within}
 use Rattle.index_of_word.specs.Summing.{Leads, leads-none, leads-on, addable, summed-none, row-inside}
 use Rattle.index_of_word.specs.Passing.{guarded-all-low, past-low, past-top, past-guarded-top, past-guarded}
 use Rattle.index_of_word.proofs.stretch.guarded_stretch.Reads as guarded
@@ -24,7 +25,7 @@ use Rattle.index_of_word.proofs.stretch.add_guarded.Reads as add-guarde
 use Rattle.index_of_word.proofs.stretch.add_row.Reads as add-row
 use Rattle.index_of_word.proofs.stretch.guarded_cells.Reads as guarded-cells
 use Rattle.index_of_word.proofs.stretch.levels.Reads as levels
-use Rattle.index_of_word.proofs.stretch.power.Reads as power
+use Rattle.tables.proofs.weights.power.Reads as power
 use Rattle.index_of_word.proofs.stretch.+guarded_stretch+open_stretch.{statement}
 use Rattle.index_of_word.proofs.stretch.+guarded_stretch+open_stretch.Tie.{close}
 

@@ -1,11 +1,11 @@
--- `word_of_index::power` meets its contract. The loop's invariant: the number is top to the power of i.
+-- `tables::weights::power` meets its contract. The loop's invariant: the number is top to the power of i.
 use mathlib.Core.Path.{_≡_, sym}
 use Prim.Native.Nat.{_-_, _^_, _≤_}
 use native.Mathlib.Nat.{le-antisymm, pow-zero}
 use native.Mathlib.Omega.{arith}
-use Rattle.word_of_index.specs.WeightLaws.{power-fits, power-more}
-use Rattle.word_of_index.proofs.power.Statement.{statement}
-use Rattle.word_of_index.proofs.power.Tie as tie
+use Rattle.tables.specs.PowerLaws.{power-fits, power-more}
+use Rattle.tables.proofs.weights.power.Statement.{statement}
+use Rattle.tables.proofs.weights.power.Tie as tie
 
 abbrev Inv-loop : tie.InvT-loop
 Inv-loop top k number₀ i₀ number i = (i ≤ k) × (number ≡ top ^ i)
