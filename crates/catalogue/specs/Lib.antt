@@ -1,3 +1,4 @@
+-- Catalogue and Rating hold the definitions; the other files hold the laws.
 pub mod Catalogue
 pub mod HighestBit
 pub mod LengthLaws
