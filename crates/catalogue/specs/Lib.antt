@@ -1,7 +1,8 @@
--- Catalogue and Rating hold the definitions; the other files hold the laws.
+-- Catalogue and Rating hold the definitions, Examples the worked examples; the other files hold the laws.
 pub mod Catalogue
+pub mod Rating
+pub mod Examples
 pub mod HighestBit
 pub mod LengthLaws
-pub mod Rating
 pub mod RatingLaws
 pub mod RowsRight

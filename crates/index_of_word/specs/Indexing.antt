@@ -11,7 +11,7 @@ use Rattle.replies.specs.Replies.{done, isDone, refusedIf, orElse, profileRefus
 use Rattle.code.specs.Code.{index}
 use Rattle.cells.specs.Finding.{cellsRefusal}
 use Rattle.tables.specs.Tables.{tableRefusal}
-use Rattle.index_of_word.specs.declared.Ranked.{Ranked}
+use Rattle.index_of_word.specs.declared.Indexed.{Indexed}
 
 -- The tests, in the order of their numbers: profile, table, length (7: a word is exactly m cells), cells.
 unfoldable pub wordRefusal : Profile → List ℕ → List ℕ → Reply
@@ -20,7 +20,7 @@ wordRefusal p table cells =
     (orElse (tableRefusal p table) (orElse (refusedIf (not (eqb (length cells) (p .m))) 7) (cellsRefusal (p .q) (p .x) cells)))
 
 -- The index in ten limbs where nothing is refused, else 0.
-unfoldable pub indexing : Profile → List ℕ → List ℕ → Ranked
+unfoldable pub indexing : Profile → List ℕ → List ℕ → Indexed
 indexing p table cells =
     cond (isDone (wordRefusal p table cells)) (record { reply = done; index = record { 0 = limbsOf 10 (index (p .q) (p .x) cells) } })
     (record { reply = wordRefusal p table cells; index = record { 0 = limbsOf 10 0 } })

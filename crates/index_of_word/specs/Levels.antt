@@ -14,7 +14,7 @@ use borrow.Author.Tests.{lt-ltb, le-ltb, ltb-true, ltb-false}
 use Rattle.listing.specs.Listing.{allBelow}
 use Rattle.listing.specs.Order.{first-below, rest-below}
 use Rattle.tables.specs.PowerLaws.{power-within}
-use Rattle.index_of_word.specs.Rank.{digits, guardedCells, guardedFactor}
+use Rattle.index_of_word.specs.IndexBehind.{digits, guardedCells, guardedFactor}
 
 -- Where there are more cells than x behind a top, x of them are guarded and the last weighs t times a row.
 pub cells-beyond : {x left : ℕ} → x < left → x ≡ guardedCells x left

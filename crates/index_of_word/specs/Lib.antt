@@ -1,6 +1,7 @@
--- Indexing holds the definitions that the promises cite; the other files hold the laws, from one cell (Rank) to the whole word (Whole, Answers).
+-- Indexing holds the definitions that the promises cite, Examples the worked examples; the other files hold the laws, from one cell (IndexBehind) to the whole word (Whole, Answers).
 pub mod Indexing
-pub mod Rank
+pub mod Examples
+pub mod IndexBehind
 pub mod Parts
 pub mod Levels
 pub mod Summing

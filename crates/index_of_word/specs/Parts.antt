@@ -1,4 +1,4 @@
--- The parts of a rank: what one cell of an open stretch, a whole guarded stretch or a top behind a top adds, as a multiple of one row.
+-- The parts of a indexBehind: what one cell of an open stretch, a whole guarded stretch or a top behind a top adds, as a multiple of one row.
 use mathlib.Core.Path.{_≡_, refl, _∙_, sym}
 use mathlib.Core.Bool.{Bool, true, false, cond, and-eq-true-iff}
 use mathlib.Core.List.{List, [], _∷_}
@@ -16,17 +16,17 @@ use Rattle.listing.specs.Listing.{allBelow}
 use Rattle.listing.specs.Order.{rest-below}
 use Rattle.code.specs.Code.{belowTop}
 use Rattle.code.specs.Stretches.{following, following-none, following-guarded, following-weight, walk-low, walk-top}
-use Rattle.index_of_word.specs.Rank.{rank, digits, guardedCells, guardedRow, guardedFactor, rank-of-none, rank-low, rank-top}
-use Rattle.index_of_word.specs.Rank.{first-low, guarded-low, walk-past-low, walk-after, rank-after, guarded-levels}
+use Rattle.index_of_word.specs.IndexBehind.{indexBehind, digits, guardedCells, guardedRow, guardedFactor, index-behind-none, index-behind-low, index-behind-top}
+use Rattle.index_of_word.specs.IndexBehind.{first-low, guarded-low, walk-past-low, walk-after, index-behind-after, guarded-levels}
 
 -- Each cell is below q, and may stand where it stands.
 pub record Walks (t x g : ℕ) (w : List ℕ) : Type 0 where
   pub levelled : allBelow (suc t) w ≡ true
   pub stands : walk (belowTop t x) g w ≡ true
 
--- From the cells v with the guard g to those of w with the guard h, which are no more, the rank falls by `part`.
+-- From the cells v with the guard g to those of w with the guard h, which are no more, the index behind them falls by `part`.
 pub record Part (t x g : ℕ) (v : List ℕ) (h : ℕ) (w : List ℕ) (part : ℕ) : Type 0 where
-  pub falls : rank t x g v ≡ part + rank t x h w
+  pub falls : indexBehind t x g v ≡ part + indexBehind t x h w
   pub walks : Walks t x h w
   pub shorter : length w ≤ length v
 
@@ -48,7 +48,7 @@ module _ (t x : ℕ) where
   open-low a w s n =
       let low = first-low t x a w (s .levelled) n in
       record {
-        falls = rank-low t x 0 a w low ∙ rw (mul-comm a (following t x 0 (length w)));
+        falls = index-behind-low t x 0 a w low ∙ rw (mul-comm a (following t x 0 (length w)));
         walks = record { levelled = rest-below (suc t) a w (s .levelled); stands = sym (walk-low t x 0 a w low) ∙ s .stands };
         shorter = omega arith;
       }
@@ -62,7 +62,7 @@ module _ (t x : ℕ) where
   -- A top in an open stretch.
   pub open-top : (w : List ℕ) → Walks t x 0 (t ∷ w) → Part t x 0 (t ∷ w) (suc x) w (following t x 0 (length w) * t)
   open-top w s = record {
-    falls = rank-top t x 0 w refl ∙ rw (mul-comm t (following t x 0 (length w)));
+    falls = index-behind-top t x 0 w refl ∙ rw (mul-comm t (following t x 0 (length w)));
     walks = behind-top 0 w s;
     shorter = omega arith;
   }
@@ -85,7 +85,7 @@ module _ (t x : ℕ) where
   pub guarded-top : (w : List ℕ) → Walks t x (suc x) (t ∷ w)
       → Part t x (suc x) (t ∷ w) (suc x) w (guardedPart t x (suc (length w)) (t ^ guardedCells x (suc (length w))))
   guarded-top w s = record {
-    falls = rank-top t x (suc x) w (top-may-stand-fresh (belowTop t x)) ∙ rw (sub-one, weight-behind-top (length w));
+    falls = index-behind-top t x (suc x) w (top-may-stand-fresh (belowTop t x)) ∙ rw (sub-one, weight-behind-top (length w));
     walks = behind-top (suc x) w s;
     shorter = omega arith;
   }
@@ -108,8 +108,8 @@ module _ (t x a j : ℕ) (w : List ℕ) (s : Walks t x (suc x) (a ∷ w)) (low :
   rest-walks : walk (belowTop t x) (x - j) (drop j w) ≡ true
   rest-walks = sym (walk-past-low t x x j w l rest-low) ∙ walks-on
 
-  levels-part : j ≤ length w → rank t x (suc x) (a ∷ w)
-      ≡ digits t 0 (take (suc j) (a ∷ w)) * following t x (x - j) (length w - j) + rank t x (x - j) (drop j w)
+  levels-part : j ≤ length w → indexBehind t x (suc x) (a ∷ w)
+      ≡ digits t 0 (take (suc j) (a ∷ w)) * following t x (x - j) (length w - j) + indexBehind t x (x - j) (drop j w)
   levels-part k = rw (← length-drop j w) (guarded-levels t x a j w low l k rest-low)
 
 -- The guarded cells are below top.
@@ -137,7 +137,7 @@ guarded-levels-part t (suc y) a w o s low = go (ltb (suc y) (suc (length w))) re
         record {
           falls = levels-part t (suc y) a y w s low j (omega arith)
               ∙ rw (one, row, following-guarded t (suc y) 0 (suc (length w) - suc y - 1) (omega arith), turned)
-              (rw (rank-after t (suc y) (drop y w) o levelled walks));
+              (rw (index-behind-after t (suc y) (drop y w) o levelled walks));
           walks = record { levelled = levelled; stands = walk-after t (suc y) (drop y w) o levelled walks };
           shorter = rw length-drop (omega arith);
         }
@@ -149,7 +149,7 @@ guarded-levels-part t (suc y) a w o s low = go (ltb (suc y) (suc (length w))) re
         record {
           falls = part
               ∙ rw (row, drop-length w, sub-self, following-none t (suc y) 0, following-none t (suc y) (suc y - length w), mul-one, one-mul)
-              (rw (rank-of-none t (suc y) (suc y - length w), rank-of-none t (suc y) 0));
+              (rw (index-behind-none t (suc y) (suc y - length w), index-behind-none t (suc y) 0));
           walks = rw drop-length (record { levelled = refl; stands = walk-none t (suc y) 0 });
           shorter = rw length-drop (omega arith);
         }

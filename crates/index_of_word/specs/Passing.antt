@@ -9,7 +9,7 @@ use lib.ListN.{length, take, drop, getD, length-drop}
 use lib.Seq.{drop-cons, drop-drop}
 use Rattle.listing.specs.Listing.{allBelow}
 use Rattle.code.specs.Stretches.{following}
-use Rattle.index_of_word.specs.Rank.{digits, guardedCells, guardedRow, guardedFactor, first-low}
+use Rattle.index_of_word.specs.IndexBehind.{digits, guardedCells, guardedRow, guardedFactor, first-low}
 use Rattle.index_of_word.specs.Parts.{Part, open-low, open-top, guarded-top, guarded-levels-low, guarded-levels-part}
 use Rattle.index_of_word.specs.Summing.{Summable, withRow, Leads, leads}
 

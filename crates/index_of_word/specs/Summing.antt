@@ -1,4 +1,4 @@
--- Summing the rank of a word up in lent limbs, from the rows of a lent table.
+-- Summing the index of a word up in lent limbs, from the rows of a lent table.
 use mathlib.Core.Path.{_≡_, refl, _∙_}
 use mathlib.Core.List.{List, [], _∷_}
 use Prim.Native.Nat.{ℕ, zero, suc, _+_, _-_, _*_, _^_, _≤_, _<_}
@@ -12,11 +12,11 @@ use Rattle.limbs.specs.HoldingLaws.{length-holding, numberAt-holding-below, hol
 use Rattle.replies.specs.ReplyLaws.{Between}
 use Rattle.code.specs.Stretches.{following}
 use Rattle.tables.specs.Tables.{tableLength}
-use Rattle.index_of_word.specs.Rank.{rank, guardedRow, guardedFactor, rank-of-none}
+use Rattle.index_of_word.specs.IndexBehind.{indexBehind, guardedRow, guardedFactor, index-behind-none}
 use Rattle.index_of_word.specs.Levels.{factor-beyond, factor-within}
 use Rattle.index_of_word.specs.Parts.{Walks, Part}
 
--- The first n limbs of `sum` have room for the rank of w behind the guard g, and every row that it takes stands in n limbs of the table.
+-- The first n limbs of `sum` have room for the index of w behind the guard g, and every row that it takes stands in n limbs of the table.
 pub record Summable (t x n g : ℕ) (table w sum : List ℕ) : Type 0 where
   pub levels : Between 1 31 t
   pub reach : Between 1 8 x
@@ -25,7 +25,7 @@ pub record Summable (t x n g : ℕ) (table w sum : List ℕ) : Type 0 where
   pub lent : n ≤ length sum
   pub long : tableLength (length w) ≤ length table
   pub rows : (i : ℕ) → i ≤ length w → numberAt n table (10 * i) ≡ following t x 0 i
-  pub fits : numberAt n sum 0 + rank t x g w < base ^ n
+  pub fits : numberAt n sum 0 + indexBehind t x g w < base ^ n
 
 -- `sum` with k times row r of the table added to its first n limbs.
 abbrev pub withRow : ℕ → List ℕ → ℕ → ℕ → List ℕ → List ℕ
@@ -38,9 +38,9 @@ pub record Addable (t x n left number : ℕ) (table sum : List ℕ) : Type 0 whe
   pub lent : n ≤ length sum
   pub inside : 10 * guardedRow x left + n ≤ length table
 
--- `sum` with the rank of w behind the guard g added to its first n limbs.
+-- `sum` with the index of w behind the guard g added to its first n limbs.
 unfoldable pub summed : ℕ → ℕ → ℕ → ℕ → List ℕ → List ℕ → List ℕ
-summed t x n g w sum = holding n (numberAt n sum 0 + rank t x g w) sum
+summed t x n g w sum = holding n (numberAt n sum 0 + indexBehind t x g w) sum
 
 -- The first limbs of a list are limbs.
 limbs-taken : (n : ℕ) (l : List ℕ) → allLimbs l → allLimbs (take n l)
@@ -64,7 +64,7 @@ no-row n table r k sum all h e = rw (e, mul-zero, add-zero, holding-same n sum a
 pub summed-none : (t x n g : ℕ) (cells : List ℕ) (at : ℕ) (sum : List ℕ) → allLimbs sum → n ≤ length sum → length cells ≤ at
     → sum ≡ summed t x n g (drop at cells) sum
 unfolding summed
-summed-none t x n g cells at sum all h l = rw (drop-of-length-le cells l, rank-of-none t x g, add-zero, holding-same n sum all h)
+summed-none t x n g cells at sum all h l = rw (drop-of-length-le cells l, index-behind-none t x g, add-zero, holding-same n sum all h)
 
 -- The row that guarded cells use, where there are more cells than x behind their top, and where there are not.
 module _ (t x left number n : ℕ) (table sum : List ℕ) {next : List ℕ} where
@@ -76,8 +76,8 @@ module _ (t x left number n : ℕ) (table sum : List ℕ) {next : List ℕ} wher
       → next ≡ withRow n table (guardedRow x left) (number * guardedFactor t x left) sum
   row-within l e = let first : left - x - 1 ≡ 0 = omega arith in rw (← factor-within t l, mul-one, first) e
 
--- `next` has so much added to its first n limbs that what is left to add, the rank of w behind the guard h, leads to where
--- the rank of v behind the guard g leads from `sum`.
+-- `next` has so much added to its first n limbs that what is left to add, the index of w behind the guard h, leads to where
+-- the index of v behind the guard g leads from `sum`.
 pub record Leads (t x n g : ℕ) (table v sum : List ℕ) (h : ℕ) (w next : List ℕ) : Type 0 where
   pub summable : Summable t x n h table w next
   pub kept : length next ≡ length sum
@@ -92,12 +92,12 @@ pub leads-on : {t x n g h j : ℕ} {table u v w sum next last : List ℕ} → Le
     → Leads t x n g table u sum j w last
 leads-on a b = record { summable = b .summable; kept = b .kept ∙ a .kept; same = b .same ∙ a .same }
 
--- A part of the rank is added.
+-- A part of the index is added.
 pub leads : {t x n g h part : ℕ} {table v w sum next : List ℕ} → Summable t x n g table v sum → Part t x g v h w part
     → next ≡ holding n (numberAt n sum 0 + part) sum → Leads t x n g table v sum h w next
 unfolding summed
 leads {t} {x} {n} {g} {h} {part} {table} {v} {w} {sum} {next} s p e =
-    let total : numberAt n sum 0 + rank t x g v ≡ numberAt n sum 0 + part + rank t x h w = rw (p .falls, add-assoc) in
+    let total : numberAt n sum 0 + indexBehind t x g v ≡ numberAt n sum 0 + part + indexBehind t x h w = rw (p .falls, add-assoc) in
     let below = rw total at (s .fits) in
     let held : numberAt n next 0 ≡ numberAt n sum 0 + part = rw e (numberAt-holding-below n sum (lt-of-le-of-lt (omega arith) below)) in
     let shorter = p .shorter in

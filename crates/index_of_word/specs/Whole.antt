@@ -13,7 +13,7 @@ use Rattle.code.specs.Code.{N, legal, index}
 use Rattle.code.specs.Stretches.{following-legal, legal-walks}
 use Rattle.tables.specs.Tables.{Belongs}
 use Rattle.tables.specs.TableLaws.{row-stands}
-use Rattle.index_of_word.specs.Rank.{rank-is-index}
+use Rattle.index_of_word.specs.IndexBehind.{index-behind-open}
 use Rattle.index_of_word.specs.Summing.{Summable, summed}
 
 -- A legal word, a table that belongs to the profile and whose rows fit n limbs, and n limbs of `sum` with room for the index.
@@ -46,11 +46,11 @@ summable (suc t) x n table cells sum s =
       lent = s .lent;
       long = s .belongs .long;
       rows = λ i l. row-stands (suc t) x (length cells) n table (omega arith) (s .belongs) (s .limbs) (s .rows) i l ∙ sym (following-legal t x i);
-      fits = rw rank-is-index (s .fits);
+      fits = rw index-behind-open (s .fits);
     })
 
 -- .. and what they sum up is the index.
 pub summed-index : (q x n : ℕ) (cells sum : List ℕ) → 0 < q → summed (q - 1) x n 0 (drop 0 cells) sum ≡ withIndex q x n cells sum
 unfolding summed
 summed-index zero x n cells sum l = absurd (omega arith)
-summed-index (suc t) x n cells sum l = rw (sub-one, rank-is-index)
+summed-index (suc t) x n cells sum l = rw (sub-one, index-behind-open)

@@ -9,7 +9,7 @@ ghost use Rattle.index_of_word.specs.Whole.{Indexable, withIndex};
 mod stretch;
 
 // The answer: the reply, and the index, which is 0 where the call is refused.
-pub struct Ranked {
+pub struct Indexed {
     pub reply: Reply,
     pub index: Index,
 }
@@ -43,19 +43,19 @@ fn refused_word(p: Profile, table: &[u64], cells: &[u8]) -> Reply
 }
 
 // The index of a word of the profile's code.
-pub fn index(p: Profile, table: &[u64], cells: &[u8]) -> Ranked
+pub fn index(p: Profile, table: &[u64], cells: &[u8]) -> Indexed
     ensures { λ r. ⌜ r ≡ indexing p (now (table .entry)) (now (cells .entry)) ⌝ }
 {
     let mut sum = [0; 10];
     let reply = refused_word(p, table, cells);
     if reply.number != replies::DONE {
         let none = Index(sum);
-        return Ranked { reply, index: none };
+        return Indexed { reply, index: none };
     }
     let n = limbs::limbs_used(table, 10 * p.m, 10);
     add_index(p.q, p.x, table, n, cells, &mut sum);
     let index = Index(sum);
-    Ranked {
+    Indexed {
         reply: replies::done(),
         index,
     }

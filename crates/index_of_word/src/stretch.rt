@@ -3,7 +3,7 @@
 ghost use mathlib.Core.Path.{_≡_};
 ghost use Prim.Native.Nat.{suc, _+_, _-_, _*_, _^_, _≤_};
 ghost use lib.ListN.{length, take, drop};
-ghost use Rattle.index_of_word.specs.Rank.{digits, guardedCells, guardedRow, guardedFactor};
+ghost use Rattle.index_of_word.specs.IndexBehind.{digits, guardedCells, guardedRow, guardedFactor};
 ghost use Rattle.index_of_word.specs.Levels.{GuardedRun};
 ghost use Rattle.index_of_word.specs.Summing.{Summable, Addable, withRow, summed};
 
@@ -59,7 +59,7 @@ fn add_guarded(
     }
 }
 
-// Adds the rank of the cells from `at` on where the stretch is open: cell by cell, up to the next
+// Adds the index of the cells from `at` on where the stretch is open: cell by cell, up to the next
 // top, which hands over to a guarded stretch.
 pub fn open_stretch(
     top: u64,
@@ -85,7 +85,7 @@ pub fn open_stretch(
     }
 }
 
-// Adds the rank of the cells from `at` on just behind a top. Another top begins a guarded stretch of
+// Adds the index of the cells from `at` on just behind a top. Another top begins a guarded stretch of
 // its own; otherwise the guarded cells count as one number, and the stretch is open behind them.
 fn guarded_stretch(
     top: u64,

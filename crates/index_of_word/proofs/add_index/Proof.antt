@@ -1,4 +1,4 @@
--- `index_of_word::add_index` meets its contract: a legal word begins with an open stretch, and its rank there is its index.
+-- `index_of_word::add_index` meets its contract: a legal word begins with an open stretch, and its indexBehind there is its index.
 use mathlib.Core.Path.{_∙_}
 use native.Mathlib.Omega.{arith}
 use borrow.Author.Needs.{needs}

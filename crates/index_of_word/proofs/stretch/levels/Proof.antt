@@ -3,7 +3,7 @@ use Prim.Native.Nat.{_+_, _-_, _*_, _^_, _≤_, _<_}
 use native.Mathlib.Nat.{le-antisymm, le-trans}
 use native.Mathlib.Omega.{arith}
 use lib.ListN.{take, drop, getD}
-use Rattle.index_of_word.specs.Rank.{digits}
+use Rattle.index_of_word.specs.IndexBehind.{digits}
 use Rattle.index_of_word.specs.Levels.{Reading, reading-none, reading-more, reading-within, reading-all, times-within}
 use Rattle.index_of_word.proofs.stretch.levels.Statement.{statement}
 use Rattle.index_of_word.proofs.stretch.levels.Tie as tie

@@ -1,4 +1,4 @@
--- Counting behind a guard: the rank of a word, and what each stretch of its cells adds to it.
+-- Counting behind a guard: the index of a word among those that may follow, and what each stretch of its cells adds to it.
 use mathlib.Core.Path.{_≡_, refl, ap, _∙_, sym, fun-ext}
 use mathlib.Core.Bool.{Bool, true, false, cond, and-eq-true-iff, true≢false}
 use mathlib.Core.List.{List, [], _∷_}
@@ -18,8 +18,8 @@ use Rattle.code.specs.Code.{belowTop, index}
 use Rattle.code.specs.Stretches.{following, following-low, following-guarded, legal-walks, walk-low, walk-top}
 
 -- How many words, of the levels up to t, may follow where the guard is g and stand before w.
-unfoldable pub rank : ℕ → ℕ → ℕ → List ℕ → ℕ
-rank t x g w = indexIn (suc t) (walk (belowTop t x) g) w
+unfoldable pub indexBehind : ℕ → ℕ → ℕ → List ℕ → ℕ
+indexBehind t x g w = indexIn (suc t) (walk (belowTop t x) g) w
 
 -- A run of levels below top, read as one number to the base t, with the number s before it.
 unfoldable pub digits : ℕ → ℕ → List ℕ → ℕ
@@ -36,39 +36,39 @@ guardedRow x left = left - x - 1
 abbrev pub guardedFactor : ℕ → ℕ → ℕ → ℕ
 guardedFactor t x left = cond (ltb x left) t 1
 
--- In an open stretch the rank is the index.
-pub rank-is-index : (t x : ℕ) (w : List ℕ) → rank t x 0 w ≡ index (suc t) x w
-unfolding rank index
-rank-is-index t x w = ap (λ (p : List ℕ → Bool). indexIn (suc t) p w) (fun-ext (legal-walks t x))
+-- In an open stretch it is the index.
+pub index-behind-open : (t x : ℕ) (w : List ℕ) → indexBehind t x 0 w ≡ index (suc t) x w
+unfolding indexBehind index
+index-behind-open t x w = ap (λ (p : List ℕ → Bool). indexIn (suc t) p w) (fun-ext (legal-walks t x))
 
 -- Nothing stands before the word of no cells.
-pub rank-of-none : (t x g : ℕ) → rank t x g [] ≡ 0
-unfolding rank
-rank-of-none t x g = index-first (suc t) _ [] nothing-before-nil
+pub index-behind-none : (t x g : ℕ) → indexBehind t x g [] ≡ 0
+unfolding indexBehind
+index-behind-none t x g = index-first (suc t) _ [] nothing-before-nil
 
 module _ (t x : ℕ) where
   -- Lower first cells leave as many words each; the cell itself leaves those before the rest.
-  rank-by-first : (g a : ℕ) (w : List ℕ) → a < suc t
-      → rank t x g (a ∷ w) ≡ a * following t x (g - 1) (length w) + indexIn (suc t) (behind a (walk (belowTop t x) g)) w
-  unfolding rank
-  rank-by-first g a w l =
+  index-behind-by-first : (g a : ℕ) (w : List ℕ) → a < suc t
+      → indexBehind t x g (a ∷ w) ≡ a * following t x (g - 1) (length w) + indexIn (suc t) (behind a (walk (belowTop t x) g)) w
+  unfolding indexBehind
+  index-behind-by-first g a w l =
       index-by-first (suc t) _ a w l
       ∙ ap (λ (n : ℕ). n + indexIn (suc t) (behind a (walk (belowTop t x) g)) w)
       (sum-const _ (following t x (g - 1) (length w)) a (λ c h. following-low t x g c (length w) (omega arith)))
 
   -- A cell below top.
-  pub rank-low : (g a : ℕ) (w : List ℕ) → a < t → rank t x g (a ∷ w) ≡ a * following t x (g - 1) (length w) + rank t x (g - 1) w
-  unfolding rank
-  rank-low g a w l =
-      rank-by-first g a w (omega arith)
+  pub index-behind-low : (g a : ℕ) (w : List ℕ) → a < t → indexBehind t x g (a ∷ w) ≡ a * following t x (g - 1) (length w) + indexBehind t x (g - 1) w
+  unfolding indexBehind
+  index-behind-low g a w l =
+      index-behind-by-first g a w (omega arith)
       ∙ ap (λ (p : List ℕ → Bool). a * following t x (g - 1) (length w) + indexIn (suc t) p w) (fun-ext (λ v. walk-low t x g a v l))
 
   -- A top, where it may stand.
-  pub rank-top : (g : ℕ) (w : List ℕ) → topMayStand (belowTop t x) g ≡ true
-      → rank t x g (t ∷ w) ≡ t * following t x (g - 1) (length w) + rank t x (suc x) w
-  unfolding rank
-  rank-top g w e =
-      rank-by-first g t w (le-refl (suc t))
+  pub index-behind-top : (g : ℕ) (w : List ℕ) → topMayStand (belowTop t x) g ≡ true
+      → indexBehind t x g (t ∷ w) ≡ t * following t x (g - 1) (length w) + indexBehind t x (suc x) w
+  unfolding indexBehind
+  index-behind-top g w e =
+      index-behind-by-first g t w (le-refl (suc t))
       ∙ ap (λ (p : List ℕ → Bool). t * following t x (g - 1) (length w) + indexIn (suc t) p w) (fun-ext (λ v. walk-top t x g v ∙ rw e))
 
   -- In a guarded stretch, but for its first cell, no top may stand.
@@ -103,17 +103,17 @@ module _ (t x : ℕ) where
       walk-low t x g a w (first-below t a (take j w) b) ∙ walk-past-low (g - 1) j w (omega arith) (rest-below t a (take j w) b) ∙ rw s
 
   -- The levels of j guarded cells count as one number.
-  pub rank-past-low : (g j s : ℕ) (w : List ℕ) → j ≤ g → g ≤ x → j ≤ length w → allBelow t (take j w) ≡ true
-      → s * following t x g (length w) + rank t x g w
-      ≡ digits t s (take j w) * following t x (g - j) (length (drop j w)) + rank t x (g - j) (drop j w)
+  pub index-behind-past-low : (g j s : ℕ) (w : List ℕ) → j ≤ g → g ≤ x → j ≤ length w → allBelow t (take j w) ≡ true
+      → s * following t x g (length w) + indexBehind t x g w
+      ≡ digits t s (take j w) * following t x (g - j) (length (drop j w)) + indexBehind t x (g - j) (drop j w)
   unfolding digits
-  rank-past-low g zero s w l h k b = rw sub-zero
-  rank-past-low g (suc j) s [] l h k b = absurd (omega arith)
-  rank-past-low zero (suc j) s (a ∷ w) l h k b = absurd (omega arith)
-  rank-past-low (suc g) (suc j) s (a ∷ w) l h k b =
-      rw (following-guarded t x g (length w) h, rank-low (suc g) a w (first-below t a (take j w) b), sub-one)
-      (one-more s (following t x g (length w)) a (rank t x g w)
-      ∙ rank-past-low g j (s * t + a) w (omega arith) (omega arith) (omega arith) (rest-below t a (take j w) b) ∙ rw suc-sub-suc)
+  index-behind-past-low g zero s w l h k b = rw sub-zero
+  index-behind-past-low g (suc j) s [] l h k b = absurd (omega arith)
+  index-behind-past-low zero (suc j) s (a ∷ w) l h k b = absurd (omega arith)
+  index-behind-past-low (suc g) (suc j) s (a ∷ w) l h k b =
+      rw (following-guarded t x g (length w) h, index-behind-low (suc g) a w (first-below t a (take j w) b), sub-one)
+      (one-more s (following t x g (length w)) a (indexBehind t x g w)
+      ∙ index-behind-past-low g j (s * t + a) w (omega arith) (omega arith) (omega arith) (rest-below t a (take j w) b) ∙ rw suc-sub-suc)
     where
       one-more : (s f a r : ℕ) → s * (t * f) + (a * f + r) ≡ (s * t + a) * f + r
       one-more s f a r = rw (add-mul, mul-assoc, add-assoc)
@@ -126,11 +126,11 @@ module _ (t x : ℕ) where
       let low = guarded-first-low 1 a w (omega arith) l b e in
       walk-low t x 0 a w low ∙ sym (walk-low t x 1 a w low) ∙ e
 
-  pub rank-after : (w : List ℕ) → 0 < x → allBelow (suc t) w ≡ true → walk (belowTop t x) 1 w ≡ true → rank t x 1 w ≡ rank t x 0 w
-  rank-after [] l b e = rank-of-none t x 1 ∙ sym (rank-of-none t x 0)
-  rank-after (a ∷ w) l b e =
+  pub index-behind-after : (w : List ℕ) → 0 < x → allBelow (suc t) w ≡ true → walk (belowTop t x) 1 w ≡ true → indexBehind t x 1 w ≡ indexBehind t x 0 w
+  index-behind-after [] l b e = index-behind-none t x 1 ∙ sym (index-behind-none t x 0)
+  index-behind-after (a ∷ w) l b e =
       let low = guarded-first-low 1 a w (omega arith) l b e in
-      rank-low 1 a w low ∙ sym (rank-low 0 a w low)
+      index-behind-low 1 a w low ∙ sym (index-behind-low 0 a w low)
 
   -- Nothing before the first level.
   digits-first : (a : ℕ) (w : List ℕ) → digits t 0 (a ∷ w) ≡ digits t a w
@@ -139,6 +139,6 @@ module _ (t x : ℕ) where
 
   -- What the first cell behind a top and j guarded ones behind it add is their number times the weight of the last.
   pub guarded-levels : (a j : ℕ) (w : List ℕ) → a < t → j ≤ x → j ≤ length w → allBelow t (take j w) ≡ true
-      → rank t x (suc x) (a ∷ w) ≡ digits t 0 (a ∷ take j w) * following t x (x - j) (length (drop j w)) + rank t x (x - j) (drop j w)
+      → indexBehind t x (suc x) (a ∷ w) ≡ digits t 0 (a ∷ take j w) * following t x (x - j) (length (drop j w)) + indexBehind t x (x - j) (drop j w)
   guarded-levels a j w l h k b =
-      rank-low (suc x) a w l ∙ rw (sub-one, digits-first) (rank-past-low x j a w h (le-refl x) k b)
+      index-behind-low (suc x) a w l ∙ rw (sub-one, digits-first) (index-behind-past-low x j a w h (le-refl x) k b)
