@@ -1,6 +1,5 @@
 -- Worked examples of the definitions: the first and the last row, examples 8 and 12 of document 01 as rates, and which number is given.
 use mathlib.Core.Path.{_≡_, refl}
-use mathlib.Core.List.{List}
 use Prim.Native.Nat.{ℕ}
 use Rattle.limbs.specs.Limbs.{value, limbsOf, numberAt}
 use Rattle.replies.specs.declared.Reply.{Reply}
@@ -10,7 +9,6 @@ use Rattle.listing.specs.Listing.{allWords, listed, countOf}
 use Rattle.code.specs.Code.{legal, N}
 use Rattle.code.specs.Messages.{messageLength}
 use Rattle.tables.specs.Tables.{tableRefusal, tableOf}
-use Rattle.catalogue.specs.declared.Published.{Published}
 use Rattle.catalogue.specs.declared.Rated.{Rated}
 use Rattle.catalogue.specs.Catalogue.{row, publishing}
 use Rattle.catalogue.specs.Rating.{messageRefusal, rateRefusal, rating}

@@ -45,10 +45,7 @@ pub fn published_profile(row: usize) -> Published
 {
     if 40 <= row {
         return Published {
-            reply: Reply {
-                number: NO_SUCH,
-                place: 0,
-            },
+            reply: replies::refused_at(NO_SUCH, 0),
             q: 0,
             x: 0,
             m: 0,
@@ -56,10 +53,7 @@ pub fn published_profile(row: usize) -> Published
         };
     }
     Published {
-        reply: Reply {
-            number: DONE,
-            place: 0,
-        },
+        reply: replies::done(),
         q: rows::QS[row],
         x: rows::XS[row],
         m: rows::MS[row],
@@ -130,10 +124,7 @@ pub fn rate_of_words(p: Profile, table: &[u64], n: usize) -> Rated
     }
     let s = message_length(p, table);
     Rated {
-        reply: Reply {
-            number: DONE,
-            place: 0,
-        },
+        reply: replies::done(),
         bits: n * s,
         cells: n * (p.m + p.x),
     }

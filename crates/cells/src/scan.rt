@@ -13,17 +13,11 @@ pub fn first_cell(q: u8, cells: &[u8]) -> Reply
     let mut i = 0;
     while i < cells.len() {
         if q <= cells[i] {
-            return Reply {
-                number: replies::CELL,
-                place: i,
-            };
+            return replies::refused_at(replies::CELL, i);
         }
         i += 1;
     }
-    Reply {
-        number: replies::DONE,
-        place: 0,
-    }
+    replies::done()
 }
 
 // A forbidden pattern has its first top at a place.
@@ -55,15 +49,9 @@ pub fn first_pattern(top: u8, x: usize, cells: &[u8]) -> Reply
     let mut place = 0;
     while place < cells.len() {
         if begins(top, x, cells, place) {
-            return Reply {
-                number: replies::PATTERN,
-                place,
-            };
+            return replies::refused_at(replies::PATTERN, place);
         }
         place += 1;
     }
-    Reply {
-        number: replies::DONE,
-        place: 0,
-    }
+    replies::done()
 }

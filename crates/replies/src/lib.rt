@@ -1,7 +1,7 @@
 // What a call is handed and what it answers: the profile, the reply with its number and place, and
 // the tests of a profile and of the room in a lent output.
 ghost use mathlib.Core.Path.{_≡_};
-ghost use Rattle.replies.specs.Replies.{done, refusedIf, outsideRefusal, levelsRefusal, lengthRefusal, reachRefusal, profileRefusal, roomRefusal};
+ghost use Rattle.replies.specs.Replies.{done, refused, refusedIf, outsideRefusal, levelsRefusal, lengthRefusal, reachRefusal, profileRefusal, roomRefusal};
 
 // A profile: q levels, word length m, reach x. Any numbers may be handed in; what is out of range is
 // refused.
@@ -48,25 +48,25 @@ pub const PATTERN: u8 = 11;
 
 pub const NO_SUCH: u8 = 12;
 
+// Refused with a number at a place.
+pub fn refused_at(number: u8, place: usize) -> Reply
+    ensures { λ r. ⌜ r ≡ refused number place ⌝ }
+{
+    Reply { number, place }
+}
+
 // Done.
 pub fn done() -> Reply
     ensures { λ r. ⌜ r ≡ done ⌝ }
 {
-    Reply {
-        number: DONE,
-        place: 0,
-    }
+    refused_at(DONE, 0)
 }
 
 // Refused with a number, at place 0, where a test holds; else done.
 pub fn refused_if(test: bool, number: u8) -> Reply
     ensures { λ r. ⌜ r ≡ refusedIf test number ⌝ }
 {
-    if test {
-        Reply { number, place: 0 }
-    } else {
-        done()
-    }
+    if test { refused_at(number, 0) } else { done() }
 }
 
 // Refused with a number unless n is from low to high.

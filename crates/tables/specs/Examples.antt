@@ -5,7 +5,6 @@ use Prim.Native.Nat.{ℕ}
 use lib.ListN.{drop, set}
 use Rattle.limbs.specs.Limbs.{value, limbsOf, numberAt}
 use Rattle.replies.specs.declared.Profile.{Profile}
-use Rattle.replies.specs.declared.Reply.{Reply}
 use Rattle.replies.specs.Replies.{done, refused, refusedAtFirst, orElse, outsideRefusal, profileRefusal, roomRefusal, writing}
 use Rattle.patterns.specs.Pattern.{patternFree}
 use Rattle.listing.specs.Listing.{allWords, listed, countOf}

@@ -37,33 +37,21 @@ pub fn refused_table(p: Profile, table: &[u64]) -> Reply
     ensures { λ r. ⌜ r ≡ tableRefusal p (now (table .entry)) ⌝ }
 {
     if table.len() < 10 * (p.m + 1) {
-        return Reply {
-            number: replies::TABLE_SHORT,
-            place: 0,
-        };
+        return replies::refused_at(replies::TABLE_SHORT, 0);
     }
     let mut fresh = counting::ONE;
     let mut stage = counting::first(p);
     if row_wrong(&fresh, table, 0) {
-        return Reply {
-            number: replies::TABLE_WRONG,
-            place: 0,
-        };
+        return replies::refused_at(replies::TABLE_WRONG, 0);
     }
     while stage.i < p.m {
         let mut next = fresh;
         stage = counting::step(p, stage, &mut next, &mut fresh, table);
         if row_wrong(&next, table, stage.i) {
-            return Reply {
-                number: replies::TABLE_WRONG,
-                place: stage.i,
-            };
+            return replies::refused_at(replies::TABLE_WRONG, stage.i);
         }
     }
-    Reply {
-        number: replies::DONE,
-        place: 0,
-    }
+    replies::done()
 }
 
 // What a call that writes a table is handed is tested, and then the room for the table.

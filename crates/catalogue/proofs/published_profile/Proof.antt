@@ -5,8 +5,14 @@ use Rattle.catalogue.specs.RowsRight.{no-such-row, row-by-columns}
 use Rattle.catalogue.proofs.published_profile.Statement.{statement}
 use Rattle.catalogue.proofs.published_profile.Tie as tie
 
+refused-at-requires : tie.Need-refused-at-requires
+refused-at-requires c κs = search needs
+
 returns : tie.Need-returns
-returns c = sym (no-such-row (c .before .args .row) (search needs))
+returns c = rw (c .refused-at .ensures) (sym (no-such-row (c .before .before .args .row) (search needs)))
+
+done-requires : tie.Need-done-requires
+done-requires c κs = search needs
 
 mul-t6 : tie.Need-mul-t6
 mul-t6 c = search needs
@@ -33,13 +39,15 @@ array-read-t24 : tie.Need-array-read-t24
 array-read-t24 c = search needs
 
 returns-2 : tie.Need-returns-2
-returns-2 c = row-by-columns (c .before .args .row) (search needs)
+returns-2 c = rw (c .done .ensures) (row-by-columns (c .before .before .args .row) (search needs))
 
 pub published-profile-spec : {M : Type 1} → statement M
 published-profile-spec =
     tie.close
     (tie.spec
+    refused-at-requires
     returns
+    done-requires
     mul-t6
     array-read-t9
     mul-t11

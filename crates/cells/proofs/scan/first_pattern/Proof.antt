@@ -3,6 +3,7 @@ use mathlib.Core.Path.{sym, _∙_}
 use Prim.Native.Nat.{_-_}
 use native.Mathlib.Omega.{arith}
 use lib.ListN.{length}
+use borrow.Author.Needs.{needs}
 use Rattle.replies.specs.ReplyLaws.{Nowhere}
 use Rattle.code.specs.Code.{belowTop}
 use Rattle.cells.specs.Finding.{patternAt}
@@ -23,10 +24,14 @@ loop-holds c = λ k l h. absurd (omega arith)
 begins-requires : tie.Need-begins-requires Inv-loop μ-loop
 begins-requires c κs = omega arith
 
+refused-at-requires : tie.Need-refused-at-requires Inv-loop μ-loop
+refused-at-requires c κs = search needs
+
 returns : tie.Need-returns Inv-loop μ-loop
 returns c =
-    let here = sym (c .before .begins .ensures) ∙ c .if1 .taken in
-    first-pattern-refused _ _ _ (c .before .before .before .loop .inv) here (c .before .before .loop-test .taken)
+    let hit = c .before in
+    let here = sym (hit .before .begins .ensures) ∙ hit .if1 .taken in
+    c .refused-at .ensures ∙ first-pattern-refused _ _ _ (hit .before .before .before .loop .inv) here (hit .before .before .loop-test .taken)
 
 add-place : tie.Need-add-place Inv-loop μ-loop
 add-place c = omega arith
@@ -37,8 +42,11 @@ loop-less c = omega arith
 loop-again : tie.Need-loop-again Inv-loop μ-loop
 loop-again c = nowhere-more (c .before .before .before .loop .inv) (sym (c .before .begins .ensures) ∙ c .if1 .left)
 
+done-requires : tie.Need-done-requires Inv-loop μ-loop
+done-requires c κs = search needs
+
 returns-2 : tie.Need-returns-2 Inv-loop μ-loop
-returns-2 c = no-pattern-refused _ _ (λ k l h. c .before .loop .inv k l (omega arith))
+returns-2 c = c .done .ensures ∙ no-pattern-refused _ _ (λ k l h. c .before .before .loop .inv k l (omega arith))
 
 pub first-pattern-spec : {M : Type 1} → statement M
 first-pattern-spec =
@@ -48,8 +56,10 @@ first-pattern-spec =
     μ-loop
     loop-holds
     begins-requires
+    refused-at-requires
     returns
     add-place
     loop-less
     loop-again
+    done-requires
     returns-2)
