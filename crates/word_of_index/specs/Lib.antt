@@ -7,3 +7,4 @@ pub mod WeightLaws
 pub mod TaskLaws
 pub mod CellLaws
 pub mod SpellingLaws
+pub mod OneWord

@@ -1,0 +1,57 @@
+-- Where profile, table and room are in order, the word of an index is the one legal word with that many before it, and it is refused exactly
+-- if there is none.
+use mathlib.Core.Path.{_≡_, refl, ap}
+use mathlib.Core.List.{List, _++_}
+use Prim.Native.Nat.{ℕ, _≤_, _<_}
+use native.Mathlib.Omega.{arith}
+use lib.Dec.{leb}
+use lib.ListN.{length, drop}
+use borrow.Author.Tests.{le-leb, lt-leb}
+use Rattle.limbs.specs.Limbs.{value}
+use Rattle.numbers.specs.declared.Index.{Index}
+use Rattle.replies.specs.declared.Profile.{Profile}
+use Rattle.replies.specs.declared.Reply.{Reply}
+use Rattle.replies.specs.Replies.{done, refused, refusedIf, profileRefusal, Outcome, writing}
+use Rattle.replies.specs.ReplyLaws.{leaves, room-enough}
+use Rattle.code.specs.Code.{LegalWord, N, index, word}
+use Rattle.code.specs.Laws.{OneWord, one-word-of-index, index-below-N}
+use Rattle.tables.specs.Tables.{tableRefusal}
+use Rattle.word_of_index.specs.Spelling.{indexRefusal, spelling}
+
+-- Profile, table and room are in order.
+pub record InOrder (p : Profile) (table lent : List ℕ) : Type 0 where
+  pub profile : profileRefusal p .number ≡ 0
+  pub belongs : tableRefusal p table .number ≡ 0
+  pub room : p .m ≤ length lent
+
+-- There is a word: it is the one with that many before it, and it is written from the front.
+pub record Given (p : Profile) (i : ℕ) (lent : List ℕ) (outcome : Outcome) : Type 0 where
+  pub one : OneWord (p .q) (p .x) (p .m) i
+  pub written : outcome ≡ record { answer = record { reply = done; count = p .m }; lent = word (p .q) (p .x) (p .m) i ++ drop (p .m) lent }
+
+-- There is none: 12, and nothing is written.
+pub record NoWord (p : Profile) (i : ℕ) (lent : List ℕ) (outcome : Outcome) : Type 0 where
+  pub none : (w : List ℕ) → LegalWord (p .q) (p .x) (p .m) w → index (p .q) (p .x) w ≡ i → ⊥
+  pub refusal : outcome ≡ record { answer = record { reply = refused 12 0; count = 0 }; lent = lent }
+
+module _ (p : Profile) (table : List ℕ) (i : Index) (lent : List ℕ) (order : InOrder p table lent) where
+  decided : refusedIf (leb (N (p .q) (p .x) (p .m)) (value (i .0))) 12 ≡ indexRefusal p table i lent
+  unfolding indexRefusal
+  decided =
+      let room = ap (λ (r : Reply). r .number) (room-enough (p .m) (length lent) (order .room)) in
+      leaves _ _ _ _ refl (order .profile) (leaves _ _ _ _ refl (order .belongs) (leaves _ _ _ _ refl room refl))
+
+  -- An index below N(m) has a word, and it is given.
+  pub word-given : value (i .0) < N (p .q) (p .x) (p .m) → Given p (value (i .0)) lent (spelling p table i lent)
+  unfolding spelling writing
+  word-given l =
+      let one = one-word-of-index (p .q) (p .x) (p .m) (value (i .0)) l in
+      record { one = one; written = rw (← decided, lt-leb _ _ l, one .found .cells) }
+
+  -- An index at or above N(m) has none, and it is refused.
+  pub word-refused : N (p .q) (p .x) (p .m) ≤ value (i .0) → NoWord p (value (i .0)) lent (spelling p table i lent)
+  unfolding spelling writing
+  word-refused l = record {
+    none = λ w legal e. let below = index-below-N (p .q) (p .x) (p .m) w legal in omega arith;
+    refusal = rw (← decided, le-leb _ _ l);
+  }
