@@ -8,13 +8,16 @@ use script::show;
 
 // The number and the place.
 fn reply(r: Reply) {
-    script::show::number(r.number as u64);
-    script::show::count(r.place);
+    show::number(r.number as u64);
+    show::count(r.place);
 }
 
-// A table's output: a digest of the whole, and the limbs of the last row written.
-fn rows(limbs: &[u64], written: usize) {
+// What a call that writes a table answers and leaves: a digest of all limbs, and the last row written.
+fn table_written(w: Written, limbs: &[u64]) {
+    reply(w.reply);
+    show::count(w.count);
     show::digest(limbs);
+    let written = w.count;
     if 10 <= written {
         if written <= limbs.len() {
             show::limbs(&limbs[written - 10..written]);
@@ -38,9 +41,7 @@ pub fn build(text: &[u8], at: usize) -> usize {
     show::mark_limbs(&mut limbs);
     let n = script::count(room.value, 1400);
     let w = build_in(given.profile, &mut limbs, n);
-    reply(w.reply);
-    show::count(w.count);
-    rows(&limbs, w.count);
+    table_written(w, &limbs);
     room.next
 }
 
@@ -59,9 +60,7 @@ pub fn shipped(text: &[u8], at: usize) -> usize {
     show::mark_limbs(&mut limbs);
     let n = script::count(room.value, 1400);
     let w = shipped_in(m.value as usize, &mut limbs, n);
-    reply(w.reply);
-    show::count(w.count);
-    rows(&limbs, w.count);
+    table_written(w, &limbs);
     room.next
 }
 
