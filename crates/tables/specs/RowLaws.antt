@@ -6,7 +6,7 @@ use Prim.Native.Nat.{ℕ, zero, suc, _+_, _-_, _*_, _≤_, _<_}
 use native.Mathlib.Nat.{eq-or-lt-of-le, mul-suc, le-refl, le-of-eq, le-antisymm}
 use native.Mathlib.Numerals.{add-one}
 use native.Mathlib.Omega.{arith}
-use lib.ListN.{length, getD, set, take, drop, length-append, length-drop}
+use lib.ListN.{length, getD, set, take, drop, length-append}
 use lib.Seq.{paste, paste-suc, take-all, take-at, drop-at, drop-drop}
 use Rattle.limbs.specs.Limbs.{value, limbsOf, numberAt}
 use Rattle.limbs.specs.ValueLaws.{length-limbsOf, value-limbsOf-below}
@@ -42,10 +42,6 @@ length-table q x m = rw (table-rows q x m, add-one) (length-rows q x (suc m))
 pub front-none : (q x : ℕ) (lent : List ℕ) → lent ≡ frontRows q x 0 lent
 unfolding frontRows rowsBelow
 front-none q x lent = refl
-
-pub length-front : (q x n : ℕ) (lent : List ℕ) → 10 * n ≤ length lent → length (frontRows q x n lent) ≡ length lent
-unfolding frontRows
-length-front q x n lent l = rw (length-append, length-rows, length-drop) (omega arith)
 
 -- Row n written behind the first n rows.
 pub front-more : (q x n : ℕ) (lent : List ℕ) → withRow n (limbsOf 10 (N q x n)) (frontRows q x n lent) ≡ frontRows q x (n + 1) lent
