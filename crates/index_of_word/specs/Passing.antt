@@ -11,11 +11,11 @@ use Rattle.listing.specs.Listing.{allBelow}
 use Rattle.code.specs.Stretches.{following}
 use Rattle.index_of_word.specs.IndexBehind.{digits, guardedCells, guardedRow, guardedFactor, first-low}
 use Rattle.index_of_word.specs.Parts.{Part, open-low, open-top, guarded-top, guarded-levels-low, guarded-levels-part}
-use Rattle.index_of_word.specs.Summing.{Summable, withRow, Leads, leads}
+use Rattle.index_of_word.specs.Summing.{Summable, withMultiple, Leads, leads}
 
 -- A part that is a multiple of one row.
 leads-by-row : (r k : ℕ) {t x n g h : ℕ} {table v w sum next : List ℕ} → Summable t x n g table v sum → Part t x g v h w (following t x 0 r * k)
-    → r ≤ length v → next ≡ withRow n table r k sum → Leads t x n g table v sum h w next
+    → r ≤ length v → next ≡ withMultiple n table r k sum → Leads t x n g table v sum h w next
 leads-by-row r k s p l e = leads s p (e ∙ rw (s .rows r l))
 
 -- The cell at i, and those on its right.
@@ -34,7 +34,7 @@ guarded-all-low t x n table cells i k l low s h =
 module _ (t x n : ℕ) (table cells : List ℕ) (i : ℕ) (l : i < length cells) {sum next : List ℕ} where
   -- A cell below top in an open stretch.
   pub past-low : (getD cells i 0 ≡ t → ⊥) → Summable t x n 0 table (drop i cells) sum
-      → next ≡ withRow n table (length cells - i - 1) (getD cells i 0) sum
+      → next ≡ withMultiple n table (length cells - i - 1) (getD cells i 0) sum
       → Leads t x n 0 table (drop i cells) sum 0 (drop (i + 1) cells) next
   past-low low s e =
       let c = rw (drop-cons cells i 0 l) at s in
@@ -43,7 +43,7 @@ module _ (t x n : ℕ) (table cells : List ℕ) (i : ℕ) (l : i < length cells)
 
   -- A top in an open stretch.
   pub past-top : getD cells i 0 ≡ t → Summable t x n 0 table (drop i cells) sum
-      → next ≡ withRow n table (length cells - i - 1) (getD cells i 0) sum
+      → next ≡ withMultiple n table (length cells - i - 1) (getD cells i 0) sum
       → Leads t x n 0 table (drop i cells) sum (suc x) (drop (i + 1) cells) next
   past-top top s e =
       let c = rw (drop-cons cells i 0 l, top) at s in
@@ -53,7 +53,7 @@ module _ (t x n : ℕ) (table cells : List ℕ) (i : ℕ) (l : i < length cells)
   -- A top behind a top.
   pub past-guarded-top : {k number : ℕ} → getD cells i 0 ≡ t → Summable t x n (suc x) table (drop i cells) sum
       → k ≡ guardedCells x (length cells - i) → number ≡ t ^ k
-      → next ≡ withRow n table (guardedRow x (length cells - i)) (number * guardedFactor t x (length cells - i)) sum
+      → next ≡ withMultiple n table (guardedRow x (length cells - i)) (number * guardedFactor t x (length cells - i)) sum
       → Leads t x n (suc x) table (drop i cells) sum (suc x) (drop (i + 1) cells) next
   past-guarded-top top s d f e =
       let c = rw (drop-cons cells i 0 l, top) at s in
@@ -63,7 +63,7 @@ module _ (t x n : ℕ) (table cells : List ℕ) (i : ℕ) (l : i < length cells)
   -- Guarded cells, the first of them below top.
   pub past-guarded : {k number : ℕ} → (getD cells i 0 ≡ t → ⊥) → Summable t x n (suc x) table (drop i cells) sum
       → k ≡ guardedCells x (length cells - i) → number ≡ digits t 0 (take k (drop i cells))
-      → next ≡ withRow n table (guardedRow x (length cells - i)) (number * guardedFactor t x (length cells - i)) sum
+      → next ≡ withMultiple n table (guardedRow x (length cells - i)) (number * guardedFactor t x (length cells - i)) sum
       → Leads t x n (suc x) table (drop i cells) sum 0 (drop (i + k) cells) next
   past-guarded low s d f e =
       let c = rw (drop-cons cells i 0 l) at s in

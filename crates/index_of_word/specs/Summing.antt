@@ -28,8 +28,8 @@ pub record Summable (t x n g : ℕ) (table w sum : List ℕ) : Type 0 where
   pub fits : numberAt n sum 0 + indexBehind t x g w < base ^ n
 
 -- `sum` with k times row r of the table added to its first n limbs.
-abbrev pub withRow : ℕ → List ℕ → ℕ → ℕ → List ℕ → List ℕ
-withRow n table r k sum = holding n (numberAt n sum 0 + numberAt n table (10 * r) * k) sum
+abbrev pub withMultiple : ℕ → List ℕ → ℕ → ℕ → List ℕ → List ℕ
+withMultiple n table r k sum = holding n (numberAt n sum 0 + numberAt n table (10 * r) * k) sum
 
 -- The number of guarded cells may be added: the row that they use stands in the table, and `sum` has n limbs.
 pub record Addable (t x n left number : ℕ) (table sum : List ℕ) : Type 0 where
@@ -57,7 +57,7 @@ holding-same n l all h =
     rw first (take-append-drop n l)
 
 -- A row taken 0 times adds nothing.
-pub no-row : (n : ℕ) (table : List ℕ) (r k : ℕ) (sum : List ℕ) → allLimbs sum → n ≤ length sum → k ≡ 0 → sum ≡ withRow n table r k sum
+pub no-row : (n : ℕ) (table : List ℕ) (r k : ℕ) (sum : List ℕ) → allLimbs sum → n ≤ length sum → k ≡ 0 → sum ≡ withMultiple n table r k sum
 no-row n table r k sum all h e = rw (e, mul-zero, add-zero, holding-same n sum all h)
 
 -- Nor do cells where none are left.
@@ -68,12 +68,12 @@ summed-none t x n g cells at sum all h l = rw (drop-of-length-le cells l, index-
 
 -- The row that guarded cells use, where there are more cells than x behind their top, and where there are not.
 module _ (t x left number n : ℕ) (table sum : List ℕ) {next : List ℕ} where
-  pub row-beyond : x < left → next ≡ withRow n table (guardedRow x left) (number * t) sum
-      → next ≡ withRow n table (guardedRow x left) (number * guardedFactor t x left) sum
+  pub row-beyond : x < left → next ≡ withMultiple n table (guardedRow x left) (number * t) sum
+      → next ≡ withMultiple n table (guardedRow x left) (number * guardedFactor t x left) sum
   row-beyond l e = rw (← factor-beyond t l) e
 
-  pub row-within : left ≤ x → next ≡ withRow n table 0 number sum
-      → next ≡ withRow n table (guardedRow x left) (number * guardedFactor t x left) sum
+  pub row-within : left ≤ x → next ≡ withMultiple n table 0 number sum
+      → next ≡ withMultiple n table (guardedRow x left) (number * guardedFactor t x left) sum
   row-within l e = let first : left - x - 1 ≡ 0 = omega arith in rw (← factor-within t l, mul-one, first) e
 
 -- `next` has so much added to its first n limbs that what is left to add, the index of w behind the guard h, leads to where

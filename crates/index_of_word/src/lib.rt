@@ -1,10 +1,10 @@
 // The index of a word: the number of legal words of its length before it.
-use numbers::Index;
-use replies::Profile;
-use replies::Reply;
 ghost use mathlib.Core.Path.{_≡_};
 ghost use Rattle.index_of_word.specs.Indexing.{wordRefusal, indexing};
 ghost use Rattle.index_of_word.specs.Whole.{Indexable, withIndex};
+use numbers::Index;
+use replies::Profile;
+use replies::Reply;
 
 mod stretch;
 

@@ -5,7 +5,7 @@ ghost use Prim.Native.Nat.{suc, _+_, _-_, _*_, _^_, _≤_};
 ghost use lib.ListN.{length, take, drop};
 ghost use Rattle.index_of_word.specs.IndexBehind.{digits, guardedCells, guardedRow, guardedFactor};
 ghost use Rattle.index_of_word.specs.Levels.{GuardedRun};
-ghost use Rattle.index_of_word.specs.Summing.{Summable, Addable, withRow, summed};
+ghost use Rattle.index_of_word.specs.Summing.{Summable, Addable, withMultiple, summed};
 
 // How many of the `left` cells behind a top are guarded.
 fn guarded_cells(x: usize, left: usize) -> usize
@@ -31,7 +31,7 @@ fn levels(top: u64, cells: &[u8], at: usize, k: usize) -> u64
 // Adds k times row r of the table to the first n limbs of `sum`.
 fn add_row(table: &[u64], n: usize, r: usize, k: u64, sum: &mut [u64])
     requires { ⌜ (n ≤ length (now sum)) × (10 * r + n ≤ length (now table)) ⌝ }
-    ensures { λ _. ⌜ now (sum .exit) ≡ withRow n (now (table .entry)) r k (now (sum .entry)) ⌝ }
+    ensures { λ _. ⌜ now (sum .exit) ≡ withMultiple n (now (table .entry)) r k (now (sum .entry)) ⌝ }
 {
     if k != 0 {
         limbs::add_multiple(sum, n, table, 10 * r, k);
@@ -50,7 +50,7 @@ fn add_guarded(
     sum: &mut [u64],
 )
     requires { ⌜ Addable top x n left number (now table) (now sum) ⌝ }
-    ensures { λ _. ⌜ now (sum .exit) ≡ withRow n (now (table .entry)) (guardedRow x left) (number * guardedFactor top x left) (now (sum .entry)) ⌝ }
+    ensures { λ _. ⌜ now (sum .exit) ≡ withMultiple n (now (table .entry)) (guardedRow x left) (number * guardedFactor top x left) (now (sum .entry)) ⌝ }
 {
     if x < left {
         add_row(table, n, left - x - 1, number * top, sum);
