@@ -11,7 +11,7 @@ use Rattle.code.specs.Messages.{messageLength}
 use Rattle.tables.specs.Tables.{tableRefusal, tableOf}
 use Rattle.catalogue.specs.declared.Rated.{Rated}
 use Rattle.catalogue.specs.Catalogue.{row, publishing}
-use Rattle.catalogue.specs.Rating.{messageRefusal, rateRefusal, rating}
+use Rattle.catalogue.specs.Rating.{messageRefusal, carryingRefusal, rateRefusal, rating}
 
 -- The rate of n words at reach 1, with the table of a reach.
 abbrev asked : ℕ → ℕ → ℕ → ℕ → Rated
@@ -34,7 +34,7 @@ pub record Examples : Type 0 where
   pub table-before-words : asked 2 4 2 257 ≡ answered (refused 6 4) 0 0
 
 pub examples : Examples
-unfolding publishing rating rateRefusal messageRefusal orElse refusedAtFirst profileRefusal outsideRefusal tableRefusal tableOf
+unfolding publishing rating carryingRefusal rateRefusal messageRefusal orElse refusedAtFirst profileRefusal outsideRefusal tableRefusal tableOf
     messageLength N legal countOf listed allWords patternFree value limbsOf numberAt
 examples = record {
   first-row = refl;

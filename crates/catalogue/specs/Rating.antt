@@ -1,4 +1,4 @@
--- The outcome of asking for the rate of n words.
+-- The tests of every call on messages, and the outcome of asking for the rate of n words.
 use mathlib.Core.Bool.{cond, _||_}
 use mathlib.Core.List.{List}
 use Prim.Native.Nat.{ℕ, _+_, _-_, _*_}
@@ -15,9 +15,13 @@ use Rattle.catalogue.specs.declared.Rated.{Rated}
 unfoldable pub messageRefusal : Profile → Reply
 messageRefusal p = refusedIf (eqb (messageLength (p .q) (p .x) (p .m)) 0 || eqb (N (p .q) (p .x) (p .m) - wordsKeptOut) 0) 4
 
--- The tests, in the order of their numbers: profile, message length, table, and 7: n above 256.
+-- What every call on messages tests first, in the order of the numbers: profile, message length, table.
+unfoldable pub carryingRefusal : Profile → List ℕ → Reply
+carryingRefusal p table = orElse (profileRefusal p) (orElse (messageRefusal p) (tableRefusal p table))
+
+-- And then 7: n above 256.
 unfoldable pub rateRefusal : Profile → List ℕ → ℕ → Reply
-rateRefusal p table n = orElse (profileRefusal p) (orElse (messageRefusal p) (orElse (tableRefusal p table) (refusedIf (ltb 256 n) 7)))
+rateRefusal p table n = orElse (carryingRefusal p table) (refusedIf (ltb 256 n) 7)
 
 -- The rate of n words: bits n s and cells n (m + x).
 unfoldable pub rating : Profile → List ℕ → ℕ → Rated

@@ -1,4 +1,4 @@
--- Laws of the rate: what is known of a rate that is not refused, and its outcome.
+-- Laws of the rate: what is known of a call on messages and of a rate that are not refused, and the outcome.
 use mathlib.Core.Path.{_≡_, refl}
 use mathlib.Core.List.{List}
 use Prim.Native.Nat.{ℕ, _+_, _*_, _≤_, _<_}
@@ -13,7 +13,15 @@ use Rattle.replies.specs.Replies.{done}
 use Rattle.replies.specs.ReplyLaws.{both-done, test-failed, profile-in-range}
 use Rattle.tables.specs.TableLaws.{table-belongs}
 use Rattle.catalogue.specs.LengthLaws.{lengthOf, CarriesMessages, length-below}
-use Rattle.catalogue.specs.Rating.{rateRefusal, rating}
+use Rattle.catalogue.specs.Rating.{carryingRefusal, rateRefusal, rating}
+
+-- Where neither profile nor table is refused and there are messages, the table belongs to the profile and words carry messages.
+pub carries-messages : (p : Profile) (table : List ℕ) {r : Reply} → r ≡ carryingRefusal p table → r .number ≡ 0 → CarriesMessages p table
+unfolding carryingRefusal
+carries-messages p table e none =
+    let first = both-done _ _ (rw e at none) in
+    let second = both-done _ _ (first .second) in
+    record { inRange = profile-in-range p refl (first .first); carries = second .first; belongs = table-belongs p table (second .second) }
 
 -- What is known of a rate that is not refused: what is worked out fits.
 pub record Rates (p : Profile) (table : List ℕ) (n : ℕ) : Type 0 where
@@ -28,15 +36,14 @@ small-product l h = lt-of-le-of-lt (mul-le-mul l h) (lit< {m = 256 * 640} {n = b
 pub rate-not-refused : (p : Profile) (table : List ℕ) (n : ℕ) {r : Reply} → r ≡ rateRefusal p table n → r .number ≡ 0 → Rates p table n
 unfolding rateRefusal
 rate-not-refused p table n e none =
-    let first = both-done _ _ (rw e at none) in
-    let second = both-done _ _ (first .second) in
-    let third = both-done _ _ (second .second) in
-    let range = profile-in-range p refl (first .first) in
-    let few = ltb-false 256 n (test-failed _ 6 (third .second)) in
+    let both = both-done _ _ (rw e at none) in
+    let ready = carries-messages p table refl (both .first) in
+    let range = ready .inRange in
+    let few = ltb-false 256 n (test-failed _ 6 (both .second)) in
     let width : p .m + p .x ≤ 640 = omega (arith, range .length .most, range .reach .most) in
     record {
-      ready = record { inRange = range; carries = second .first; belongs = table-belongs p table (third .first) };
-      bits = small-product few (le-of-lt (length-below range (second .first)));
+      ready = ready;
+      bits = small-product few (le-of-lt (length-below range (ready .carries)));
       width = lt-of-le-of-lt width (lit< {m = 640} {n = base} tt);
       cells = small-product few width;
     }

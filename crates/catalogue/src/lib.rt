@@ -10,7 +10,7 @@ ghost use Rattle.code.specs.Messages.{messageLength};
 ghost use Rattle.code.specs.MessageLaws.{Largest};
 ghost use Rattle.catalogue.specs.Catalogue.{publishing};
 ghost use Rattle.catalogue.specs.LengthLaws.{CarriesMessages};
-ghost use Rattle.catalogue.specs.Rating.{messageRefusal, rateRefusal, rating};
+ghost use Rattle.catalogue.specs.Rating.{messageRefusal, carryingRefusal, rateRefusal, rating};
 use replies::DONE;
 use replies::INPUT_LENGTH;
 use replies::NO_MESSAGE;
@@ -90,10 +90,9 @@ pub fn message_length(p: Profile, table: &[u64]) -> usize
     highest_bit(&rest)
 }
 
-// The first number that applies to a rate: of the profile, of its message length, of the table, and
-// of n.
-fn refused_rate(p: Profile, table: &[u64], n: usize) -> Reply
-    ensures { λ r. ⌜ r ≡ rateRefusal p (now (table .entry)) n ⌝ }
+// What every call on messages tests first: the profile, its message length, the table.
+pub fn refused_carrying(p: Profile, table: &[u64]) -> Reply
+    ensures { λ r. ⌜ r ≡ carryingRefusal p (now (table .entry)) ⌝ }
 {
     let profile = replies::refused_profile(p);
     if profile.number != DONE {
@@ -103,9 +102,16 @@ fn refused_rate(p: Profile, table: &[u64], n: usize) -> Reply
     if message.number != DONE {
         return message;
     }
-    let lent = tables::refused_table(p, table);
-    if lent.number != DONE {
-        return lent;
+    tables::refused_table(p, table)
+}
+
+// The first number that applies to a rate: of what every call on messages tests, and of n.
+fn refused_rate(p: Profile, table: &[u64], n: usize) -> Reply
+    ensures { λ r. ⌜ r ≡ rateRefusal p (now (table .entry)) n ⌝ }
+{
+    let handed = refused_carrying(p, table);
+    if handed.number != DONE {
+        return handed;
     }
     replies::refused_if(256 < n, INPUT_LENGTH)
 }

@@ -4,7 +4,7 @@ use mathlib.Core.List.{[], _∷_}
 use Prim.Native.Nat.{ℕ}
 use lib.Dec.{eqb}
 use Rattle.replies.specs.declared.Profile.{Profile}
-use Rattle.replies.specs.Replies.{done, refused, refusedAtFirst, orElse, outsideRefusal, profileRefusal, roomRefusal, writing}
+use Rattle.replies.specs.Replies.{done, refused, refusedAtFirst, orElse, outsideRefusal, profileRefusal, roomRefusal, writingCounted, writing}
 
 abbrev of : ℕ → ℕ → ℕ → Profile
 of q m x = record { q = q; m = m; x = x }
@@ -26,7 +26,7 @@ pub record Examples : Type 0 where
       writing (refused 9 0) (8 ∷ 9 ∷ []) (1 ∷ 2 ∷ 3 ∷ []) ≡ record { answer = record { reply = refused 9 0; count = 0 }; lent = 1 ∷ 2 ∷ 3 ∷ [] }
 
 pub examples : Examples
-unfolding refusedAtFirst orElse outsideRefusal profileRefusal roomRefusal writing
+unfolding refusedAtFirst orElse outsideRefusal profileRefusal roomRefusal writingCounted
 examples = record {
   least = refl;
   most = refl;

@@ -2,4 +2,5 @@
 pub mod Replies
 pub mod Examples
 pub mod ReplyLaws
+pub mod LowestLaws
 pub mod WritingLaws

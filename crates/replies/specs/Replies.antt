@@ -2,8 +2,8 @@
 -- The numbers are those of document 01.
 use mathlib.Core.Bool.{Bool, cond, _||_}
 use mathlib.Core.List.{List, _++_}
-use Prim.Native.Nat.{ℕ, zero, suc}
-use lib.Dec.{ltb, eqb}
+use Prim.Native.Nat.{ℕ, zero, suc, _+_}
+use lib.Dec.{ltb, leb, eqb}
 use lib.ListN.{length, drop}
 use Rattle.replies.specs.declared.Reply.{Reply}
 use Rattle.replies.specs.declared.Profile.{Profile}
@@ -37,6 +37,14 @@ refusedAtFirst test n number = refusedFrom 0 test n number
 unfoldable pub orElse : Reply → Reply → Reply
 orElse a b = cond (isDone a) b a
 
+-- A reply on a part of the input that starts so many places in: the place of a refusal counts on from there.
+unfoldable pub movedBy : ℕ → Reply → Reply
+movedBy places r = cond (isDone r) done (refused (r .number) (r .place + places))
+
+-- Two replies on an input, the second on what stands further on: the lowest number decides, and of one number the first place.
+unfoldable pub lowest : Reply → Reply → Reply
+lowest a b = cond (isDone a) b (cond (isDone b || leb (a .number) (b .number)) a b)
+
 -- Refused where n is not from low to high.
 unfoldable pub outsideRefusal : ℕ → ℕ → ℕ → ℕ → Reply
 outsideRefusal low high n number = refusedIf (ltb n low || ltb high n) number
@@ -63,8 +71,12 @@ pub record Outcome : Type 0 where
   pub answer : Written
   pub lent : List ℕ
 
--- A refusal writes to no lent buffer and counts 0. Done writes exactly the content from the front and counts it.
-unfoldable pub writing : Reply → List ℕ → List ℕ → Outcome
-writing refusal content lent =
-    cond (isDone refusal) (record { answer = record { reply = done; count = length content }; lent = content ++ drop (length content) lent })
+-- A refusal writes to no lent buffer and counts 0. Done writes exactly the content from the front and gives the count.
+unfoldable pub writingCounted : Reply → ℕ → List ℕ → List ℕ → Outcome
+writingCounted refusal count content lent =
+    cond (isDone refusal) (record { answer = record { reply = done; count = count }; lent = content ++ drop (length content) lent })
     (record { answer = record { reply = refusal; count = 0 }; lent = lent })
+
+-- Where cells or limbs are written, the count is theirs.
+abbrev pub writing : Reply → List ℕ → List ℕ → Outcome
+writing refusal content lent = writingCounted refusal (length content) content lent

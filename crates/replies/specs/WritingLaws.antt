@@ -6,21 +6,21 @@ use lib.ListN.{length, drop}
 use borrow.Author.Tests.{eq-eqb, ne-eqb}
 use Rattle.replies.specs.declared.Reply.{Reply}
 use Rattle.replies.specs.declared.Written.{Written}
-use Rattle.replies.specs.Replies.{done, Outcome, writing}
+use Rattle.replies.specs.Replies.{done, Outcome, writingCounted}
 
 -- A call's answer and what it leaves in the lent list are those of an outcome.
 abbrev pub Comes : Outcome → Written → List ℕ → Type 0
 Comes outcome answer after = (answer ≡ outcome .answer) × (after ≡ outcome .lent)
 
 -- Refused: nothing is written.
-pub writing-refused : (reply refusal : Reply) (content lent : List ℕ) → reply ≡ refusal → (reply .number ≡ 0 → ⊥)
-    → Comes (writing refusal content lent) (record { reply = reply; count = 0 }) lent
-unfolding writing
-writing-refused reply refusal content lent e n = rw (← e, ne-eqb (reply .number) 0 n) (refl, refl)
+pub writing-refused : (reply refusal : Reply) (count : ℕ) (content lent : List ℕ) → reply ≡ refusal → (reply .number ≡ 0 → ⊥)
+    → Comes (writingCounted refusal count content lent) (record { reply = reply; count = 0 }) lent
+unfolding writingCounted
+writing-refused reply refusal count content lent e n = rw (← e, ne-eqb (reply .number) 0 n) (refl, refl)
 
--- Done: the content from the front, and its length.
-pub writing-done : (reply refusal : Reply) (content lent : List ℕ) {count : ℕ} {after : List ℕ} → reply ≡ refusal → reply .number ≡ 0
-    → count ≡ length content → after ≡ content ++ drop (length content) lent
-    → Comes (writing refusal content lent) (record { reply = done; count = count }) after
-unfolding writing
-writing-done reply refusal content lent e z c a = rw (← e, eq-eqb (reply .number) 0 z) (rw c, a)
+-- Done: the content from the front, and the count.
+pub writing-done : (reply refusal : Reply) (count : ℕ) (content lent : List ℕ) {given : ℕ} {after : List ℕ} → reply ≡ refusal → reply .number ≡ 0
+    → given ≡ count → after ≡ content ++ drop (length content) lent
+    → Comes (writingCounted refusal count content lent) (record { reply = done; count = given }) after
+unfolding writingCounted
+writing-done reply refusal count content lent e z c a = rw (← e, eq-eqb (reply .number) 0 z) (rw c, a)

@@ -1,7 +1,8 @@
-// What a call is handed and what it answers: the profile, the reply with its number and place, and
-// the tests of a profile and of the room in a lent output.
+// What a call is handed and what it answers: the profile, the reply with its number and place, which
+// of two replies decides, and the tests of a profile and of the room in a lent output.
 ghost use mathlib.Core.Path.{_≡_};
-ghost use Rattle.replies.specs.Replies.{done, refused, refusedIf, outsideRefusal, levelsRefusal, lengthRefusal, reachRefusal, profileRefusal, roomRefusal};
+ghost use Prim.Native.Nat.{_+_, _^_, _<_};
+ghost use Rattle.replies.specs.Replies.{done, refused, refusedIf, movedBy, lowest, outsideRefusal, levelsRefusal, lengthRefusal, reachRefusal, profileRefusal, roomRefusal};
 
 // A profile: q levels, word length m, reach x. Any numbers may be handed in; what is out of range is
 // refused.
@@ -17,7 +18,7 @@ pub struct Reply {
     pub place: usize,
 }
 
-// The answer of a call that writes: its reply, and how many cells or limbs it wrote.
+// The answer of a call that writes: its reply, and how many cells, bits or limbs it wrote.
 pub struct Written {
     pub reply: Reply,
     pub count: usize,
@@ -40,6 +41,8 @@ pub const TABLE_WRONG: u8 = 6;
 
 pub const INPUT_LENGTH: u8 = 7;
 
+pub const BIT_BEHIND: u8 = 8;
+
 pub const OUTPUT_SHORT: u8 = 9;
 
 pub const CELL: u8 = 10;
@@ -47,6 +50,14 @@ pub const CELL: u8 = 10;
 pub const PATTERN: u8 = 11;
 
 pub const NO_SUCH: u8 = 12;
+
+pub const BRIDGE: u8 = 13;
+
+pub const ALL_ZERO: u8 = 14;
+
+pub const INDEX_ABOVE: u8 = 15;
+
+pub const ALL_TOP: u8 = 16;
 
 // Refused with a number at a place.
 pub fn refused_at(number: u8, place: usize) -> Reply
@@ -67,6 +78,32 @@ pub fn refused_if(test: bool, number: u8) -> Reply
     ensures { λ r. ⌜ r ≡ refusedIf test number ⌝ }
 {
     if test { refused_at(number, 0) } else { done() }
+}
+
+// A reply on a part of the input that starts so many places in, as a reply on the whole.
+pub fn moved_by(places: usize, reply: Reply) -> Reply
+    requires { ⌜ reply .place + places < 2 ^ 64 ⌝ }
+    ensures { λ r. ⌜ r ≡ movedBy places reply ⌝ }
+{
+    if reply.number == DONE {
+        return done();
+    }
+    refused_at(reply.number, reply.place + places)
+}
+
+// Of two replies on an input, the second on what stands further on: the lower number, and of one
+// number the first place.
+pub fn lowest(a: Reply, b: Reply) -> Reply
+    ensures { λ r. ⌜ r ≡ lowest a b ⌝ }
+{
+    if a.number == DONE {
+        return b;
+    }
+    if (b.number == DONE) | (a.number <= b.number) {
+        a
+    } else {
+        b
+    }
 }
 
 // Refused with a number unless n is from low to high.

@@ -5,7 +5,7 @@ use Prim.Native.Nat.{ℕ}
 use lib.ListN.{drop, set}
 use Rattle.limbs.specs.Limbs.{value, limbsOf, numberAt}
 use Rattle.replies.specs.declared.Profile.{Profile}
-use Rattle.replies.specs.Replies.{done, refused, refusedAtFirst, orElse, outsideRefusal, profileRefusal, roomRefusal, writing}
+use Rattle.replies.specs.Replies.{done, refused, refusedAtFirst, orElse, outsideRefusal, profileRefusal, roomRefusal, writingCounted}
 use Rattle.patterns.specs.Pattern.{patternFree}
 use Rattle.listing.specs.Listing.{allWords, listed, countOf}
 use Rattle.code.specs.Code.{legal, N}
@@ -33,7 +33,7 @@ pub record Examples : Type 0 where
   pub handed-out : handingOut 1 (row 8 ++ row 8) ≡ record { answer = record { reply = done; count = 20 }; lent = row 1 ++ row 4 }
 
 pub examples : Examples
-unfolding tableRefusal tableOf building handingOut writing orElse refusedAtFirst profileRefusal outsideRefusal roomRefusal
+unfolding tableRefusal tableOf building handingOut writingCounted orElse refusedAtFirst profileRefusal outsideRefusal roomRefusal
     N legal countOf listed allWords patternFree value limbsOf numberAt
 examples = record {
   rows = refl;

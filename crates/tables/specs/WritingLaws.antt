@@ -23,7 +23,7 @@ module _ (q x m : ℕ) (lent : List ℕ) {reply handed test : Reply} (given : ha
   decided = tested ∙ rw given
 
   pub table-refused : (reply .number ≡ 0 → ⊥) → Comes (tableWriting q x m test lent) (record { reply = reply; count = 0 }) lent
-  table-refused n = writing-refused reply _ (tableOf q x m) lent decided n
+  table-refused n = writing-refused reply _ _ (tableOf q x m) lent decided n
 
   module _ (taken : reply .number ≡ 0) where
     both : BothDone handed (roomRefusal (tableLength m) (length lent))
@@ -42,4 +42,4 @@ module _ (q x m : ℕ) (lent : List ℕ) {reply handed test : Reply} (given : ha
     pub table-written : {after : List ℕ} → after ≡ frontRows q x (m + 1) lent
         → Comes (tableWriting q x m test lent) (record { reply = reply; count = tableLength m }) after
     table-written a =
-        rw reply-done (writing-done reply _ (tableOf q x m) lent decided taken (sym (length-table q x m)) (a ∙ table-front q x m lent))
+        rw reply-done (writing-done reply _ _ (tableOf q x m) lent decided taken (sym (length-table q x m)) (a ∙ table-front q x m lent))

@@ -4,7 +4,7 @@ use mathlib.Core.List.{List, [], _∷_}
 use Prim.Native.Nat.{ℕ}
 use Rattle.limbs.specs.Limbs.{value, limbsOf, numberAt}
 use Rattle.replies.specs.declared.Reply.{Reply}
-use Rattle.replies.specs.Replies.{done, refused, refusedAtFirst, orElse, outsideRefusal, profileRefusal, roomRefusal, Outcome, writing}
+use Rattle.replies.specs.Replies.{done, refused, refusedAtFirst, orElse, outsideRefusal, profileRefusal, roomRefusal, Outcome, writingCounted}
 use Rattle.patterns.specs.Pattern.{patternFree}
 use Rattle.patterns.specs.Walk.{walk}
 use Rattle.listing.specs.Listing.{allWords, listed, countOf, wordOf}
@@ -29,7 +29,7 @@ pub record Outcomes : Type 0 where
   pub no-room : asked 7 (9 ∷ 9 ∷ []) ≡ answered (refused 9 0) 0 (9 ∷ 9 ∷ [])
 
 pub outcomes : Outcomes
-unfolding spelling indexRefusal writing orElse profileRefusal outsideRefusal roomRefusal tableRefusal refusedAtFirst tableOf
+unfolding spelling indexRefusal writingCounted orElse profileRefusal outsideRefusal roomRefusal tableRefusal refusedAtFirst tableOf
     word wordOf N legal countOf listed allWords patternFree value limbsOf numberAt
 outcomes = record { first = refl; last = refl; no-eighth = refl; no-room = refl }
 

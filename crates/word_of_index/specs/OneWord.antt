@@ -11,7 +11,7 @@ use Rattle.limbs.specs.Limbs.{value}
 use Rattle.numbers.specs.declared.Index.{Index}
 use Rattle.replies.specs.declared.Profile.{Profile}
 use Rattle.replies.specs.declared.Reply.{Reply}
-use Rattle.replies.specs.Replies.{done, refused, refusedIf, profileRefusal, Outcome, writing}
+use Rattle.replies.specs.Replies.{done, refused, refusedIf, profileRefusal, Outcome, writingCounted}
 use Rattle.replies.specs.ReplyLaws.{leaves, room-enough}
 use Rattle.code.specs.Code.{LegalWord, N, index, word}
 use Rattle.code.specs.Laws.{OneWord, one-word-of-index, index-below-N}
@@ -43,14 +43,14 @@ module _ (p : Profile) (table : List ℕ) (i : Index) (lent : List ℕ) (order :
 
   -- An index below N(m) has a word, and it is given.
   pub word-given : value (i .0) < N (p .q) (p .x) (p .m) → Given p (value (i .0)) lent (spelling p table i lent)
-  unfolding spelling writing
+  unfolding spelling writingCounted
   word-given l =
       let one = one-word-of-index (p .q) (p .x) (p .m) (value (i .0)) l in
       record { one = one; written = rw (← decided, lt-leb _ _ l, one .found .cells) }
 
   -- An index at or above N(m) has none, and it is refused.
   pub word-refused : N (p .q) (p .x) (p .m) ≤ value (i .0) → NoWord p (value (i .0)) lent (spelling p table i lent)
-  unfolding spelling writing
+  unfolding spelling writingCounted
   word-refused l = record {
     none = λ w legal e. let below = index-below-N (p .q) (p .x) (p .m) w legal in omega arith;
     refusal = rw (← decided, le-leb _ _ l);

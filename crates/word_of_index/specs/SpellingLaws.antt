@@ -74,7 +74,7 @@ accepted p table i lent e z =
 pub spelling-refused : (p : Profile) (table : List ℕ) (i : Index) (lent : List ℕ) {reply : Reply} → reply ≡ indexRefusal p table i lent
     → (reply .number ≡ 0 → ⊥) → Comes (spelling p table i lent) (record { reply = reply; count = 0 }) lent
 unfolding spelling
-spelling-refused p table i lent e n = writing-refused _ _ _ lent e n
+spelling-refused p table i lent e n = writing-refused _ _ _ _ lent e n
 
 -- Done writes the word from the front.
 pub spelling-done : (p : Profile) (table : List ℕ) (i : Index) (lent : List ℕ) {reply : Reply} → reply ≡ indexRefusal p table i lent
@@ -85,4 +85,4 @@ unfolding spelling
 spelling-done p table i lent e z ten a =
     let found = one-word-of-index (p .q) (p .x) (p .m) (value (i .0)) (accepted p table i lent e z .below) .found .cells in
     let whole = whole-index (i .0) ten in
-    writing-done _ _ _ lent e z (sym found) (rw found (rw (whole, zero-add) at a))
+    writing-done _ _ _ _ lent e z (sym found) (rw found (rw (whole, zero-add) at a))

@@ -1,0 +1,2 @@
+-- Bits holds the definitions.
+pub mod Bits

@@ -1,0 +1,2 @@
+-- Joining holds the definitions.
+pub mod Joining

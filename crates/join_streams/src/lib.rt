@@ -1,0 +1,1 @@
+// Two streams joined, and a stream turned end for end.

@@ -1,0 +1,2 @@
+-- Reading holds the definitions.
+pub mod Reading

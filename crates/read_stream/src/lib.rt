@@ -1,0 +1,1 @@
+// A stream read back to message bits.

@@ -1,0 +1,3 @@
+-- Streams holds the definitions.
+pub mod Streams
+pub mod FitLaws

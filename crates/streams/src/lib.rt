@@ -1,0 +1,1 @@
+// The tests that calls on streams share, and the bridge between two words.

@@ -1,0 +1,2 @@
+-- Writing holds the definitions.
+pub mod Writing

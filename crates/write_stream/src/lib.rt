@@ -1,0 +1,1 @@
+// Message bits written as a bridged stream.
