@@ -1,8 +1,9 @@
-"""The second program: document 01's calls on one word, answered a second time.
+"""The second program: document 01's calls, answered a second time.
 
 It shares no code with the crates. A word is legal if no forbidden pattern is found in it; counts, indices and words come from listing
 where there are few words. Where there are many, counts come from the printed recursion, an index from the printed weights, and a word
-from the counts of the words that begin as it does. Each answer is a list: the number, the place, and what else the call gives.
+from the counts of the words that begin as it does. Bits are text of the digits 0 and 1. Of a stream's cells all faults are gathered, and the
+least is given. Each answer is a list: the number, the place, and what else the call gives.
 """
 
 from functools import cache
@@ -134,6 +135,10 @@ def refused_table(q, m, x, table):
     return None
 
 
+def refused_message_call(q, m, x, table):
+    return refused_profile(q, m, x) or ([4, 0] if message_length(q, x, m) == 0 else None) or refused_table(q, m, x, table)
+
+
 def refused_cells(q, x, cells):
     for place, cell in enumerate(cells):
         if cell >= q:
@@ -190,6 +195,111 @@ def published(row):
 
 
 def rate(q, m, x, table, n):
-    refusal = refused_profile(q, m, x) or ([4, 0] if message_length(q, x, m) == 0 else None) or refused_table(q, m, x, table)
-    refusal = refusal or ([7, 0] if n > 256 else None)
+    refusal = refused_message_call(q, m, x, table) or ([7, 0] if n > 256 else None)
     return [*refusal, 0, 0] if refusal else [*DONE, n * message_length(q, x, m), n * (m + x)]
+
+
+def cells_of(n, m, x):
+    return n * m + (n - 1) * x if n else 0
+
+
+def words_in(cells, m, x):
+    """How many words so many cells are; None where no stream has that length."""
+    return next((n for n in range(cells + 1) if cells_of(n, m, x) == cells), None)
+
+
+def bridge(q, x, before, after):
+    return [q - 1 if (before, after) == (q - 1, q - 1) else 0] * x
+
+
+def stream_of(q, x, words):
+    cells = []
+    for word in words:
+        cells += (bridge(q, x, cells[-1], word[0]) if cells else []) + word
+    return cells
+
+
+def faults(q, m, x, cells):
+    """Every cell at or above q, pattern in a word and wrong bridge cell of a stream, as number and place."""
+    found = [(10, place) for place, cell in enumerate(cells) if cell >= q]
+    for start in range(0, len(cells), m + x):
+        place = first_pattern(q, x, cells[start : start + m])
+        found += [] if place is None else [(11, start + place)]
+    for start in range(m, len(cells), m + x):
+        right = bridge(q, x, cells[start - 1], cells[start + x])
+        found += [(13, start + i) for i in range(x) if cells[start + i] != right[i]]
+    return found
+
+
+def silent(q, m, x, cells):
+    """Every word of a stream of legal words that carries no message."""
+    found = []
+    for start in range(0, len(cells), m + x):
+        word = cells[start : start + m]
+        found += [(14, start)] if set(word) == {0} else []
+        found += [(15, start)] if index_of(q, x, word) > 2 ** message_length(q, x, m) else []
+        found += [(16, start)] if set(word) == {q - 1} else []
+    return found
+
+
+def least(found):
+    return list(min(found)) if found else None
+
+
+def text_of(numbers, digits):
+    return "".join(format(number, f"0{digits}b") for number in numbers)
+
+
+def write(q, m, x, table, data, bits, lent):
+    refusal = refused_message_call(q, m, x, table)
+    if refusal:
+        return written(refusal, [], lent)
+    s, text = message_length(q, x, m), text_of(data[: -(-bits // 8)], 8)
+    n = bits // s
+    refusal = [7, 0] if bits % s or n > 256 or -(-bits // 8) > len(data) else None
+    refusal = refusal or ([8, text.index("1", bits)] if "1" in text[bits:] else None)
+    refusal = refusal or ([9, 0] if len(lent) < cells_of(n, m, x) else None)
+    if refusal:
+        return written(refusal, [], lent)
+    messages = [int(text[k * s : k * s + s], 2) for k in range(n)]
+    return written(None, stream_of(q, x, [word_of(q, x, m, message + 1) for message in messages]), lent)
+
+
+def read(q, m, x, table, cells, lent):
+    refusal = refused_message_call(q, m, x, table)
+    n = None if refusal else words_in(len(cells), m, x)
+    refusal = refusal or ([7, 0] if n is None or n > 256 else None)
+    if refusal:
+        return written(refusal, [], lent)
+    s = message_length(q, x, m)
+    refusal = [9, 0] if len(lent) < -(-n * s // 8) else None
+    refusal = refusal or least(faults(q, m, x, cells)) or least(silent(q, m, x, cells))
+    if refusal:
+        return written(refusal, [], lent)
+    starts = range(0, len(cells), m + x)
+    text = text_of([index_of(q, x, cells[start : start + m]) - 1 for start in starts], s)
+    filled = text + "0" * (-len(text) % 8)
+    answer, left = written(None, [int(filled[i : i + 8], 2) for i in range(0, len(filled), 8)], lent)
+    return [*DONE, len(text)], left
+
+
+def join(q, m, x, a, b, lent):
+    refusal = refused_profile(q, m, x)
+    if refusal:
+        return written(refusal, [], lent)
+    words = [words_in(len(cells), m, x) for cells in (a, b)]
+    refusal = [7, 0] if None in words or sum(words) > 256 else None
+    joined = a + (bridge(q, x, a[-1], b[0]) if a and b else []) + b
+    refusal = refusal or ([9, 0] if len(lent) < len(joined) else None)
+    if refusal:
+        return written(refusal, [], lent)
+    found = faults(q, m, x, a) + [(number, len(a) + place) for number, place in faults(q, m, x, b)]
+    return written(least(found), joined, lent)
+
+
+def turn(q, m, x, cells, lent):
+    refusal = refused_profile(q, m, x)
+    n = None if refusal else words_in(len(cells), m, x)
+    refusal = refusal or ([7, 0] if n is None or n > 256 else None) or ([9, 0] if len(lent) < len(cells) else None)
+    refusal = refusal or least(faults(q, m, x, cells))
+    return written(refusal, cells[::-1], lent)

@@ -2,32 +2,15 @@
 
 python3 tests/words.py script     writes the cases, one to a line
 python3 tests/words.py answers    writes the answers, one to a line
-
-In the script only the numbers count; the words say what they are.
 """
 
-import sys
 from itertools import product
 from random import Random
 
 import second
+from cases import CELL_MARK, LARGE, LIMB_MARK, Table, case, digest, print_chosen, runs
 
-LIMB_MARK, CELL_MARK = 1000003, 200
-script, answers = [], []
 random = Random(20)
-
-
-def case(text, *answer):
-    script.append(text)
-    answers.append("".join(f" {number}" for number in answer))
-
-
-def digest(limbs):
-    total = 0
-    for limb in limbs:
-        for half in (limb % 2**32, limb // 2**32):
-            total = (total * 65599 + half) % 4294967291
-    return total
 
 
 def rows(answer, lent, room):
@@ -42,27 +25,6 @@ def build(q, m, x, room):
 
 def shipped(m, room):
     case(f"2 shipped {m} room {room}", *rows(*second.shipped(m, [LIMB_MARK] * room), room))
-
-
-class Table:
-    """A table that is built for a profile, with something added to one limb, lent over its first limbs."""
-
-    def __init__(self, q, m, x, row=0, limb=0, added=0, lent=None):
-        limbs = second.build(q, m, x, [0] * 1300)[1]
-        limbs[10 * row + limb] = (limbs[10 * row + limb] + added) % 2**64
-        lent = 10 * (m + 1) if lent is None else lent
-        self.limbs = limbs[:lent]
-        self.text = f"table {q} {m} {x} damage {row} {limb} {added} lent {lent}"
-
-
-def runs(cells):
-    found = []
-    for cell in cells:
-        if found and found[-1][0] == cell:
-            found[-1][1] += 1
-        else:
-            found.append([cell, 1])
-    return f"runs {len(found)} " + " ".join(f"{level} {times}" for level, times in found)
 
 
 def index(q, m, x, cells, table=None):
@@ -92,7 +54,6 @@ def rate(q, m, x, n, table=None):
 
 EDGES = list(product((1, 2, 32, 33), (0, 1, 128, 129), (0, 1, 8, 9)))
 ROOM = 1303
-LARGE = 18446744073709551600
 
 
 def tables():
@@ -235,4 +196,4 @@ def catalogue():
 
 for part in (tables, words, mistakes, word_refusals, damaged_tables, finder, catalogue):
     part()
-print("\n".join([f"{len(script)} cases", *script] if sys.argv[1] == "script" else answers))
+print_chosen()

@@ -4,7 +4,7 @@ use mathlib.Core.List.{[], _∷_}
 use Prim.Native.Nat.{ℕ}
 use lib.Dec.{eqb}
 use Rattle.replies.specs.declared.Profile.{Profile}
-use Rattle.replies.specs.Replies.{done, refused, refusedAtFirst, orElse, outsideRefusal, profileRefusal, roomRefusal, writingCounted, writing}
+use Rattle.replies.specs.Replies.{done, refused, refusedAtFirst, orElse, movedBy, lowest, outsideRefusal, profileRefusal, roomRefusal, writingCounted, writing}
 
 abbrev of : ℕ → ℕ → ℕ → Profile
 of q m x = record { q = q; m = m; x = x }
@@ -21,12 +21,19 @@ pub record Examples : Type 0 where
   pub just-enough : roomRefusal 5 5 ≡ done
   pub first-place : refusedAtFirst (eqb 1) 4 7 ≡ refused 7 1
   pub no-place : refusedAtFirst (eqb 4) 4 7 ≡ done
+  pub lowest-number-later : lowest (refused 15 0) (refused 14 4) ≡ refused 14 4
+  pub first-place-of-one-number : lowest (refused 13 3) (refused 13 7) ≡ refused 13 3
+  pub only-the-second : lowest done (refused 13 7) ≡ refused 13 7
+  pub only-the-first : lowest (refused 13 3) done ≡ refused 13 3
+  pub further-in : movedBy 4 (refused 13 3) ≡ refused 13 7
+  pub nothing-to-move : movedBy 4 done ≡ done
   pub written : writing done (8 ∷ 9 ∷ []) (1 ∷ 2 ∷ 3 ∷ []) ≡ record { answer = record { reply = done; count = 2 }; lent = 8 ∷ 9 ∷ 3 ∷ [] }
+  pub bits-counted : writingCounted done 4 (48 ∷ []) (9 ∷ 9 ∷ []) ≡ record { answer = record { reply = done; count = 4 }; lent = 48 ∷ 9 ∷ [] }
   pub not-written :
       writing (refused 9 0) (8 ∷ 9 ∷ []) (1 ∷ 2 ∷ 3 ∷ []) ≡ record { answer = record { reply = refused 9 0; count = 0 }; lent = 1 ∷ 2 ∷ 3 ∷ [] }
 
 pub examples : Examples
-unfolding refusedAtFirst orElse outsideRefusal profileRefusal roomRefusal writingCounted
+unfolding refusedAtFirst orElse movedBy lowest outsideRefusal profileRefusal roomRefusal writingCounted
 examples = record {
   least = refl;
   most = refl;
@@ -39,6 +46,13 @@ examples = record {
   just-enough = refl;
   first-place = refl;
   no-place = refl;
+  lowest-number-later = refl;
+  first-place-of-one-number = refl;
+  only-the-second = refl;
+  only-the-first = refl;
+  further-in = refl;
+  nothing-to-move = refl;
   written = refl;
+  bits-counted = refl;
   not-written = refl;
 }

@@ -1,12 +1,26 @@
--- Laws of replies on parts of an input: what it says that none is refused.
+-- Laws of replies on parts of an input: which of two decides, and what it says that none is refused.
 use mathlib.Core.Path.{_≡_, refl}
 use mathlib.Core.Bool.{Bool, true, false, cond, _||_}
 use Prim.Native.Nat.{ℕ, _+_}
 use lib.Dec.{leb}
-use borrow.Author.Tests.{eqb-true, eqb-false}
+use borrow.Author.Tests.{eqb-true, eqb-false, eq-eqb, ne-eqb}
 use Rattle.replies.specs.declared.Reply.{Reply}
 use Rattle.replies.specs.Replies.{done, isDone, refused, movedBy, lowest}
 use Rattle.replies.specs.ReplyLaws.{BothDone}
+
+-- Which of two decides: the second where the first is done, else the first unless the second has a lower number.
+pub second-decides : (a b : Reply) → a .number ≡ 0 → b ≡ lowest a b
+unfolding lowest
+second-decides a b e = rw (eq-eqb (a .number) 0 e)
+
+module _ (a b : Reply) (some : a .number ≡ 0 → ⊥) where
+  pub first-decides : (isDone b || leb (a .number) (b .number)) ≡ true → a ≡ lowest a b
+  unfolding lowest
+  first-decides e = rw (ne-eqb (a .number) 0 some, e)
+
+  pub lower-decides : (isDone b || leb (a .number) (b .number)) ≡ false → b ≡ lowest a b
+  unfolding lowest
+  lower-decides e = rw (ne-eqb (a .number) 0 some, e)
 
 -- The lowest of two is done where both are, and only there.
 pub lowest-of-done : (a b : Reply) → a ≡ done → b ≡ done → lowest a b ≡ done

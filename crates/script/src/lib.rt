@@ -1,7 +1,9 @@
-// What the test programs share: reading the numbers of a script of cases, and showing answers. In a
-// script only the digits count; what stands between numbers is for the reader.
+// What the test programs share: reading a script of cases, which are numbers, profiles, tables and
+// runs of cells, and showing answers. In a script only the digits count; what stands between numbers
+// is for the reader.
 ghost use Prim.Native.Nat.{_≤_};
 
+pub mod given;
 pub mod show;
 
 // A number of the script, and the place behind it.

@@ -1,4 +1,5 @@
 // Showing answers: numbers in decimal with a blank before each, and a line's end.
+use replies::Reply;
 
 const LINE: [u8; 1] = [b'\n'];
 
@@ -13,6 +14,12 @@ pub fn number(n: u64) {
 // A count or a place.
 pub fn count(n: usize) {
     number(n as u64);
+}
+
+// The number and the place of a reply.
+pub fn reply(r: Reply) {
+    number(r.number as u64);
+    count(r.place);
 }
 
 // The end of a line.
@@ -39,14 +46,26 @@ pub fn cells(c: &[u8]) {
     }
 }
 
+// What a digest becomes with one number more.
+fn mixed(sum: u64, n: u64) -> u64 {
+    let low = ((sum % 4294967291) * 65599 + n % 4294967296) % 4294967291;
+    ((low % 4294967291) * 65599 + n / 4294967296 % 4294967296) % 4294967291
+}
+
 // One number for all limbs, in their order.
 pub fn digest(l: &[u64]) {
     let mut sum = 0;
     for i in 0..l.len() {
-        let low = l[i] % 4294967296;
-        let high = l[i] / 4294967296 % 4294967296;
-        sum = ((sum % 4294967291) * 65599 + low) % 4294967291;
-        sum = ((sum % 4294967291) * 65599 + high) % 4294967291;
+        sum = mixed(sum, l[i]);
+    }
+    number(sum);
+}
+
+// One number for all cells, in their order.
+pub fn digest_of_cells(c: &[u8]) {
+    let mut sum = 0;
+    for i in 0..c.len() {
+        sum = mixed(sum, wide(c[i]));
     }
     number(sum);
 }

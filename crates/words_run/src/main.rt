@@ -1,7 +1,6 @@
 // Runs the calls on tables, words, cells and profiles over a script of cases, and prints every answer
 // with the whole of the lent output behind it. The script and what must be printed are written by
 // tests/words.py, which shares no code with the crates.
-mod given;
 mod tried;
 
 // One case: the number of the call, then what the call takes. Returns the place behind it.

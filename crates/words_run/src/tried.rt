@@ -1,20 +1,13 @@
 // Each call, tried on one case: what it takes is read, what it answers is shown on one line.
-use crate::given;
 use numbers::Index;
 use replies::Profile;
-use replies::Reply;
 use replies::Written;
+use script::given;
 use script::show;
-
-// The number and the place.
-fn reply(r: Reply) {
-    show::number(r.number as u64);
-    show::count(r.place);
-}
 
 // What a call that writes a table answers and leaves: a digest of all limbs, and the last row written.
 fn table_written(w: Written, limbs: &[u64]) {
-    reply(w.reply);
+    show::reply(w.reply);
     show::count(w.count);
     show::digest(limbs);
     let written = w.count;
@@ -77,7 +70,7 @@ pub fn index(text: &[u8], at: usize) -> usize {
         script::first_limbs(&table, n),
         script::first_cells(&cells, k),
     );
-    reply(r.reply);
+    show::reply(r.reply);
     let limbs = r.index.0;
     show::limbs(&limbs);
     show::end();
@@ -110,7 +103,7 @@ pub fn word(text: &[u8], at: usize) -> usize {
         &mut cells,
         k,
     );
-    reply(w.reply);
+    show::reply(w.reply);
     show::count(w.count);
     show::cells(script::first_cells(&cells, k));
     show::end();
@@ -123,7 +116,7 @@ pub fn find(text: &[u8], at: usize) -> usize {
     let mut cells = [0u8; 65600];
     let c = script::runs(text, x.next, &mut cells);
     let k = script::count(c.value, 65600);
-    reply(cells::find(
+    show::reply(cells::find(
         q.value as usize,
         x.value as usize,
         script::first_cells(&cells, k),
@@ -135,7 +128,7 @@ pub fn find(text: &[u8], at: usize) -> usize {
 pub fn published(text: &[u8], at: usize) -> usize {
     let row = script::number(text, at);
     let p = catalogue::published_profile(row.value as usize);
-    reply(p.reply);
+    show::reply(p.reply);
     show::count(p.q);
     show::count(p.x);
     show::count(p.m);
@@ -155,7 +148,7 @@ pub fn rate(text: &[u8], at: usize) -> usize {
         script::first_limbs(&table, n),
         words.value as usize,
     );
-    reply(r.reply);
+    show::reply(r.reply);
     show::count(r.bits);
     show::count(r.cells);
     show::end();

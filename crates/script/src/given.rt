@@ -10,9 +10,9 @@ pub struct Given {
 
 // A profile: q, m and x.
 pub fn profile(text: &[u8], at: usize) -> Given {
-    let q = script::number(text, at);
-    let m = script::number(text, q.next);
-    let x = script::number(text, m.next);
+    let q = crate::number(text, at);
+    let m = crate::number(text, q.next);
+    let x = crate::number(text, m.next);
     Given {
         profile: Profile {
             q: q.value as usize,
@@ -28,10 +28,10 @@ pub fn profile(text: &[u8], at: usize) -> Given {
 pub fn table(text: &[u8], at: usize, table: &mut [u64]) -> usize {
     let of = profile(text, at);
     tables::build(of.profile, table);
-    let row = script::number(text, of.next);
-    let limb = script::number(text, row.next);
-    let added = script::number(text, limb.next);
-    let place = script::count(row.value, 200) * 10 + script::count(limb.value, 9);
+    let row = crate::number(text, of.next);
+    let limb = crate::number(text, row.next);
+    let added = crate::number(text, limb.next);
+    let place = crate::count(row.value, 200) * 10 + crate::count(limb.value, 9);
     if place < table.len() {
         table[place] = wrapping_add_u64(table[place], added.value);
     }
@@ -42,7 +42,7 @@ pub fn table(text: &[u8], at: usize, table: &mut [u64]) -> usize {
 pub fn limbs(text: &[u8], at: usize, limbs: &mut [u64]) -> usize {
     let mut next = at;
     for i in 0..limbs.len() {
-        let limb = script::number(text, next);
+        let limb = crate::number(text, next);
         limbs[i] = limb.value;
         next = limb.next;
     }

@@ -1,10 +1,10 @@
--- `words_run::given::limbs` ends after the last limb; none is added.
+-- `script::given::limbs` ends after the last limb; none is added.
 use mathlib.Core.Path.{_≡_}
 use Prim.Native.Nat.{_≤_, _-_}
 use lib.ListN.{length}
 use borrow.Author.Needs.{needs}
-use Rattle.words_run.proofs.given.limbs.Statement.{statement}
-use Rattle.words_run.proofs.given.limbs.Tie as tie
+use Rattle.script.proofs.given.limbs.Statement.{statement}
+use Rattle.script.proofs.given.limbs.Tie as tie
 
 abbrev Inv-loop : tie.InvT-loop
 Inv-loop text at limbs₀ next₀ i₀ i-end limbs next i = (i ≤ i-end) × ((i-end ≡ length limbs₀) × (length limbs ≡ length limbs₀))
