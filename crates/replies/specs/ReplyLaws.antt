@@ -69,6 +69,20 @@ profile-in-range p e none =
       reach = in-range 1 8 (p .x) 2 refl (b .second);
     }
 
+-- And one that lies in it is not refused.
+between-not-refused : (low high n number : ℕ) → Between low high n → outsideRefusal low high n number ≡ done
+unfolding outsideRefusal
+between-not-refused low high n number b = rw (le-ltb n low (b .least), le-ltb high n (b .most))
+
+pub range-not-refused : (p : Profile) → InRange p → profileRefusal p ≡ done
+unfolding profileRefusal orElse
+range-not-refused p range =
+    rw (
+      between-not-refused 2 32 (p .q) 1 (range .levels),
+      between-not-refused 1 128 (p .m) 2 (range .length),
+      between-not-refused 1 8 (p .x) 3 (range .reach),
+    )
+
 -- An output is not refused where it has room, and only there.
 pub room-enough : (needed lent : ℕ) → needed ≤ lent → roomRefusal needed lent ≡ done
 unfolding roomRefusal

@@ -1,15 +1,14 @@
 -- Laws of the length of a stream: how many words it has, what number 7 lets through, and what is left behind a word and its bridge.
-use mathlib.Core.Path.{_≡_, refl, sym, _∙_}
-use mathlib.Core.Bool.{Bool, true, false, not, _||_, true≢false}
-use Prim.Native.Nat.{ℕ, zero, suc, _+_, _-_, _*_, _/_, _≤_, _<_}
-use native.Mathlib.Nat.{div-eq-of-lt, div-eq-of-eq-mul-left, mul-add, suc-mul}
+use mathlib.Core.Path.{_≡_, refl}
+use mathlib.Core.Bool.{Bool, true, false, _||_, true≢false}
+use Prim.Native.Nat.{ℕ, zero, suc, _+_, _-_, _*_, _≤_, _<_}
+use native.Mathlib.Nat.{div-eq-of-lt, div-eq-of-eq-mul-left, mul-add, mul-le-mul, suc-mul}
 use native.Mathlib.Numerals.{sub-one}
 use native.Mathlib.Omega.{arith}
-use lib.Dec.{ltb, eqb}
-use borrow.Author.Tests.{ltb-false, le-ltb, eqb-true, eq-eqb}
+use borrow.Author.Tests.{ltb-false, le-ltb, eqb-true, eq-eqb, not-false}
 use Rattle.replies.specs.declared.Reply.{Reply}
 use Rattle.replies.specs.declared.Profile.{Profile}
-use Rattle.replies.specs.Replies.{done, refusedIf}
+use Rattle.replies.specs.Replies.{done}
 use Rattle.replies.specs.ReplyLaws.{InRange, test-failed}
 use Rattle.streams.specs.Streams.{streamLength, stride, wordsIn, fitsNone, fitRefusal, bothFitRefusal}
 
@@ -18,7 +17,7 @@ pub length-step : (p : Profile) (n : ℕ) → streamLength p (suc (suc n)) ≡ s
 length-step p n = rw (sub-one, sub-one, suc-mul, suc-mul) (omega arith)
 
 -- With a bridge behind the last word too, each word takes m + x cells.
-length-and-bridge : (p : Profile) (n : ℕ) → streamLength p (suc n) + p .x ≡ suc n * stride p
+pub length-and-bridge : (p : Profile) (n : ℕ) → streamLength p (suc n) + p .x ≡ suc n * stride p
 length-and-bridge p n = rw (sub-one, mul-add, suc-mul, suc-mul) (omega arith)
 
 -- The cells of n words tell how many they are.
@@ -38,17 +37,14 @@ pub record BothFit (p : Profile) (a b : ℕ) : Type 0 where
   pub few : wordsIn p a + wordsIn p b ≤ 256
 
 fits-one : (p : Profile) (cells : ℕ) → fitsNone p cells ≡ false → cells ≡ streamLength p (wordsIn p cells)
-fits-one p cells e = eqb-true _ _ (go _ e)
-  where
-    go : (b : Bool) → not b ≡ false → b ≡ true
-    go true e = refl
-    go false e = absurd (true≢false e)
+fits-one p cells e = eqb-true _ _ (not-false _ e)
 
--- What 7 does not refuse fits, ..
-neither : (a b : Bool) → (a || b) ≡ false → (a ≡ false) × (b ≡ false)
+-- Where not one of two tests holds, each has failed.
+pub neither : (a b : Bool) → (a || b) ≡ false → (a ≡ false) × (b ≡ false)
 neither false b e = (refl, e)
 neither true b e = absurd (true≢false e)
 
+-- What 7 does not refuse fits, ..
 pub not-refused-fits : (p : Profile) (cells : ℕ) {r : Reply} → r ≡ fitRefusal p cells → r .number ≡ 0 → Fits p cells
 unfolding fitRefusal
 not-refused-fits p cells e none =
@@ -73,6 +69,22 @@ both-fit-not-refused p a b f = rw (eq-eqb _ _ (f .first), eq-eqb _ _ (f .second)
 -- The cells of n words for n up to 256 fit.
 pub length-fits : (p : Profile) (n : ℕ) → InRange p → n ≤ 256 → Fits p (streamLength p n)
 length-fits p n range l = let e = words-of-length p n range in record { exact = rw e refl; few = rw e l }
+
+-- 256 words with their bridges have at most 136 cells each, ..
+pub few-words : (p : Profile) (n : ℕ) → InRange p → n ≤ 256 → n * stride p ≤ 256 * 136
+few-words p n range few =
+    let most : stride p ≤ 136 = omega (arith, range .length .most, range .reach .most) in
+    mul-le-mul few most
+
+-- .. so a stream has few cells.
+pub few-cells : (p : Profile) (cells : ℕ) → InRange p → Fits p cells → cells ≤ 256 * 136
+few-cells p cells range f = go (wordsIn p cells) (f .exact) (f .few)
+  where
+    go : (n : ℕ) → cells ≡ streamLength p n → n ≤ 256 → cells ≤ 256 * 136
+    go zero e l = omega arith
+    go (suc n) e l =
+        let all = length-and-bridge p n in
+        omega (arith, few-words p (suc n) range l)
 
 -- A part of a stream, seen by its length: no word, ..
 pub no-word : (p : Profile) → InRange p → wordsIn p 0 ≡ 0

@@ -1,3 +1,11 @@
--- Streams holds the definitions.
+-- Streams holds the definitions, Examples the worked examples; the other files hold the laws.
 pub mod Streams
+pub mod Examples
 pub mod FitLaws
+pub mod UnfitLaws
+pub mod PartLaws
+pub mod BridgeLaws
+pub mod EachLaws
+pub mod LowestFirst
+pub mod AcceptedLaws
+pub mod JoinedLaws

@@ -1,1 +1,151 @@
 // The tests that calls on streams share, and the bridge between two words.
+ghost use mathlib.Core.Path.{_≡_};
+ghost use mathlib.Core.List.{_++_};
+ghost use Prim.Native.Nat.{_+_, _-_, _^_, _<_};
+ghost use lib.ListN.{length, take, drop, getD};
+ghost use Rattle.replies.specs.ReplyLaws.{InRange};
+ghost use Rattle.patterns.specs.Stream.{bridge};
+ghost use Rattle.streams.specs.Streams.{patternsOf, stride, streamLength, wordsIn, fitRefusal, bothFitRefusal, bridgeRefusal, partRefusal, throughout, streamRefusal};
+ghost use Rattle.streams.specs.FitLaws.{Fits};
+ghost use Rattle.streams.specs.UnfitLaws.{unfit};
+ghost use Rattle.streams.specs.BridgeLaws.{bridgeLevel};
+use replies::Profile;
+use replies::Reply;
+
+// The most words of a stream, and the most cells: no word has more than 128, no bridge more than 8.
+const MOST_WORDS: usize = 256;
+
+const MOST_CELLS: usize = 34816;
+
+// How many words a stream of so many cells has.
+pub fn words_in(p: Profile, cells: usize) -> usize
+    requires { ⌜ InRange p × (cells < 2 ^ 32) ⌝ }
+    ensures { λ r. ⌜ r ≡ wordsIn p cells ⌝ }
+{
+    (cells + p.x) / (p.m + p.x)
+}
+
+// No stream of at most 256 words has so many cells. With a bridge behind its last word too, a stream
+// has m + x cells a word.
+fn unfit(p: Profile, cells: usize) -> bool
+    requires { ⌜ InRange p ⌝ }
+    ensures { λ r. ⌜ r ≡ unfit p cells ⌝ }
+{
+    if MOST_CELLS < cells {
+        return true;
+    }
+    if cells == 0 {
+        return false;
+    }
+    ((cells + p.x) % (p.m + p.x) != 0) | (MOST_WORDS < words_in(p, cells))
+}
+
+// Number 7 for one stream.
+pub fn refused_fit(p: Profile, cells: usize) -> Reply
+    requires { ⌜ InRange p ⌝ }
+    ensures { λ r. ⌜ r ≡ fitRefusal p cells ⌝ }
+{
+    replies::refused_if(unfit(p, cells), replies::INPUT_LENGTH)
+}
+
+// Number 7 for two streams: both together have at most 256 words.
+pub fn refused_both_fit(p: Profile, a: usize, b: usize) -> Reply
+    requires { ⌜ InRange p ⌝ }
+    ensures { λ r. ⌜ r ≡ bothFitRefusal p a b ⌝ }
+{
+    if unfit(p, a) | unfit(p, b) {
+        return replies::refused_at(replies::INPUT_LENGTH, 0);
+    }
+    let words = words_in(p, a) + words_in(p, b);
+    replies::refused_if(MOST_WORDS < words, replies::INPUT_LENGTH)
+}
+
+// The level of all cells of the bridge between two cells.
+fn bridge_level(p: Profile, before: u8, after: u8) -> u8
+    requires { ⌜ InRange p ⌝ }
+    ensures { λ r. ⌜ r ≡ bridgeLevel p before after ⌝ }
+{
+    let top = (p.q - 1) as u8;
+    if (before == top) & (after == top) {
+        return top;
+    }
+    0
+}
+
+// Number 13: the first wrong cell of the bridge behind a word, in a part that goes on behind it.
+fn refused_bridge(p: Profile, part: &[u8]) -> Reply
+    requires { ⌜ InRange p × (stride p < length (now part)) ⌝ }
+    ensures { λ r. ⌜ r ≡ bridgeRefusal p (now (part .entry)) ⌝ }
+{
+    let m = p.m;
+    let x = p.x;
+    let level = bridge_level(p, part[m - 1], part[m + x]);
+    let mut i = 0;
+    while i < x {
+        if part[m + i] != level {
+            return replies::refused_at(replies::BRIDGE, m + i);
+        }
+        i += 1;
+    }
+    replies::done()
+}
+
+// Numbers 10, 11, 13 from a word on.
+pub fn refused_part(p: Profile, part: &[u8]) -> Reply
+    requires { ⌜ InRange p × (length (now part) ≡ streamLength p (wordsIn p (length (now part)))) ⌝ }
+    ensures { λ r. ⌜ r ≡ partRefusal p (now (part .entry)) ⌝ }
+{
+    let m = p.m;
+    if part.len() <= m {
+        return cells::refused_cells(p.q, p.x, part);
+    }
+    let next = m + p.x;
+    let cell = cells::refused_cell(p.q, &part[..next]);
+    if cell.number != replies::DONE {
+        return cell;
+    }
+    let pattern = cells::refused_pattern(p.q, p.x, &part[..m]);
+    if pattern.number != replies::DONE {
+        return pattern;
+    }
+    refused_bridge(p, part)
+}
+
+// Numbers 10, 11, 13 of the words from a place on: the cells after a word and its bridge are handed
+// on as the part that starts m + x cells in.
+fn refused_parts(p: Profile, part: &[u8], place: usize) -> Reply
+    requires { ⌜ InRange p × (length (now part) ≡ streamLength p (wordsIn p (length (now part)))) × (place + length (now part) < 2 ^ 32) ⌝ }
+    ensures { λ r. ⌜ r ≡ throughout p (partRefusal p) (wordsIn p (length (now (part .entry)))) place (now (part .entry)) ⌝ }
+{
+    if part.len() == 0 {
+        return replies::done();
+    }
+    let here = replies::moved_by(place, refused_part(p, part));
+    if part.len() <= p.m {
+        return here;
+    }
+    let next = p.m + p.x;
+    replies::lowest(here, refused_parts(p, &part[next..], place + next))
+}
+
+// Numbers 10, 11, 13 of a stream.
+pub fn refused_stream(p: Profile, cells: &[u8]) -> Reply
+    requires { ⌜ InRange p × Fits p (length (now cells)) ⌝ }
+    ensures { λ r. ⌜ r ≡ streamRefusal p (now (cells .entry)) ⌝ }
+{
+    refused_parts(p, cells, 0)
+}
+
+// Writes the bridge of x cells from `at` on, between the words that stand there.
+pub fn write_bridge(p: Profile, out: &mut [u8], at: usize)
+    requires { ⌜ InRange p × (0 < at) × (at + p .x < length (now out)) ⌝ }
+    ensures { λ _. ⌜ now (out .exit) ≡ take at (now (out .entry)) ++ (bridge (patternsOf p) (getD (now (out .entry)) (at - 1) 0) (getD (now (out .entry)) (at + p .x) 0) ++ drop (at + p .x) (now (out .entry))) ⌝ }
+{
+    let x = p.x;
+    let level = bridge_level(p, out[at - 1], out[at + x]);
+    let mut i = 0;
+    while i < x {
+        out[at + i] = level;
+        i += 1;
+    }
+}
