@@ -18,7 +18,7 @@ abbrev pub allBytes : List ℕ → Type 0
 allBytes bytes = (i : ℕ) → getD bytes i 0 < 256
 
 -- Bytes that are whole are packed as they are.
-packed-whole : (x k : ℕ) (bits : List ℕ) → x < 256 → packedInto (suc k) (bitsOf 8 x ++ bits) ≡ x ∷ packedInto k bits
+pub packed-whole : (x k : ℕ) (bits : List ℕ) → x < 256 → packedInto (suc k) (bitsOf 8 x ++ bits) ≡ x ∷ packedInto k bits
 unfolding packedInto
 packed-whole x k bits small =
     let long = length-bitsOf 8 x in

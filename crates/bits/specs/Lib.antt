@@ -6,4 +6,5 @@ pub mod PieceLaws
 pub mod ByteLaws
 pub mod MovingLaws
 pub mod LimbLaws
+pub mod RoundTrip
 pub mod Examples

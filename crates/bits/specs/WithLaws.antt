@@ -25,7 +25,7 @@ zeros-bits (suc n) zero = lit< tt
 zeros-bits (suc n) (suc i) = zeros-bits n i
 
 -- Zeros behind bits are what stands there anyway.
-getD-zeros : (bits : List ℕ) (n i : ℕ) → getD (bits ++ replicate n 0) i 0 ≡ getD bits i 0
+pub getD-zeros : (bits : List ℕ) (n i : ℕ) → getD (bits ++ replicate n 0) i 0 ≡ getD bits i 0
 getD-zeros [] zero i = refl
 getD-zeros [] (suc n) zero = refl
 getD-zeros [] (suc n) (suc i) = getD-zeros [] n i
@@ -33,7 +33,7 @@ getD-zeros (b ∷ bits) n zero = refl
 getD-zeros (b ∷ bits) n (suc i) = getD-zeros bits n i
 
 -- The bits of the first byte packed.
-length-first : (bits : List ℕ) → length (take 8 (bits ++ replicate 8 0)) ≡ 8
+pub length-first : (bits : List ℕ) → length (take 8 (bits ++ replicate 8 0)) ≡ 8
 length-first bits = simp (length-take, length-append, length-replicate) (omega arith)
 
 bits-first : (bits : List ℕ) → allBits bits → bitsOf 8 (numberOf (take 8 (bits ++ replicate 8 0))) ≡ take 8 (bits ++ replicate 8 0)

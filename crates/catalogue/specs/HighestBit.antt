@@ -39,7 +39,7 @@ highest-in-use [] n e = absurd (omega arith)
 highest-in-use (x ∷ xs) n e = used-with-some x (used xs) n xs (highest-in-use xs) e
 
 -- A bit above n limbs of w bits.
-power-above : (w n b : ℕ) → 2 ^ (w * n + b) ≡ (2 ^ w) ^ n * 2 ^ b
+pub power-above : (w n b : ℕ) → 2 ^ (w * n + b) ≡ (2 ^ w) ^ n * 2 ^ b
 power-above w zero b = rw (mul-zero, pow-zero (2 ^ w), zero-add, one-mul)
 power-above w (suc n) b =
     rw (mul-suc, add-assoc, power-above w n (w + b), pow-add 2 w b, pow-suc (2 ^ w) n) (sym (mul-assoc ((2 ^ w) ^ n) (2 ^ w) (2 ^ b)))

@@ -53,7 +53,7 @@ number-four p range = go (eqb (p .m) 1) (leb (p .q) 3) refl refl
     go false b s t = some-message p range (λ both. eqb-false (p .m) 1 s (both .0))
 
 -- A profile that is not refused has words that carry messages.
-words-carry : (p : Profile) → messageRefusal p .number ≡ 0 → wordsKeptOut < wordsOf p
+pub words-carry : (p : Profile) → messageRefusal p .number ≡ 0 → wordsKeptOut < wordsOf p
 unfolding messageRefusal
 words-carry p = go (eqb (lengthOf p) 0) (eqb (wordsOf p - wordsKeptOut) 0) refl
   where
@@ -94,7 +94,7 @@ unfolding numberAt value
 kept-out-hold = refl
 
 -- N(m) fits ten limbs.
-words-fit : {p : Profile} → InRange p → wordsOf p < base ^ 10
+pub words-fit : {p : Profile} → InRange p → wordsOf p < base ^ 10
 words-fit {p} range = count-fits (p .q) (p .x) (p .m) (range .levels .least) (range .levels .most) (range .length .most) (range .reach .least)
 
 -- It is what the ten limbs of 0 hold once row m of the table is added and the words kept out are subtracted.

@@ -1,20 +1,20 @@
 -- What holds of the published code as a whole: the word of an index, the ends of the order, turned words and bridged words.
-use mathlib.Core.Path.{_≡_, _∙_}
+use mathlib.Core.Path.{_≡_, sym, _∙_}
 use mathlib.Core.Bool.{true, false}
 use mathlib.Core.List.{List, reverse}
 use Prim.Native.Nat.{ℕ, zero, suc, _-_, _<_}
 use native.Mathlib.Nat.{le-refl}
 use native.Mathlib.Numerals.{sub-one}
 use native.Mathlib.Omega.{arith}
-use lib.ListN.{replicate, length-reverse}
-use borrow.Author.Tests.{le-ltb}
+use lib.ListN.{replicate, length-reverse, length-replicate}
+use borrow.Author.Tests.{lt-ltb, le-ltb}
 use Rattle.patterns.specs.Stream.{filled, streamOf}
 use Rattle.patterns.specs.OccursLaws.{turned-free}
-use Rattle.patterns.specs.FreeLaws.{top-run-free}
+use Rattle.patterns.specs.FreeLaws.{top-run-free, zero-run-free}
 use Rattle.patterns.specs.StreamLaws.{stream-free}
-use Rattle.listing.specs.Every.{every, every-reverse}
+use Rattle.listing.specs.Every.{every, every-reverse, every-replicate}
 use Rattle.listing.specs.Listing.{before}
-use Rattle.listing.specs.Order.{index-keeps-order, index-below-count}
+use Rattle.listing.specs.Order.{index-keeps-order, index-injective, index-below-count}
 use Rattle.listing.specs.Inverse.{exactly-one, index-has-word, word-keeps-order}
 use Rattle.listing.specs.Limits.{zeros-first, tops-last}
 use Rattle.code.specs.Code.{published, legal, LegalWord, N, index, word}
@@ -57,10 +57,22 @@ top-not-between q x = le-ltb (q - 1) (q - 1) (le-refl (q - 1))
 zero-not-top : (q x : ℕ) → 1 < q → 0 < published q x .top
 zero-not-top q x l = omega arith
 
--- The word of all 0 has index 0.
+-- The word of all 0 is legal, has index 0, and is the only one that has.
+pub zeros-legal : (q x m : ℕ) → 1 < q → LegalWord q x m (replicate m 0)
+unfolding legal
+zeros-legal q x m l = record {
+  cells = length-replicate m 0;
+  levelled = every-replicate _ m 0 (lt-ltb 0 q (omega arith));
+  passes = zero-run-free (published q x) (top-not-between q x) (zero-not-top q x l) m;
+}
+
 pub zeros-index : (q x m : ℕ) → index q x (replicate m 0) ≡ 0
 unfolding index
 zeros-index q x m = zeros-first q (legal q x) m
+
+pub zeros-only : (q x m : ℕ) (w : List ℕ) → 1 < q → LegalWord q x m w → index q x w ≡ 0 → w ≡ replicate m 0
+unfolding index
+zeros-only q x m w l r e = index-injective q (legal q x) m w (replicate m 0) r (zeros-legal q x m l) (e ∙ sym (zeros-first q (legal q x) m))
 
 -- The word of all top is legal, and has index N(m) - 1.
 pub tops-legal : (q x m : ℕ) → legal q x (replicate m (q - 1)) ≡ true

@@ -1,4 +1,4 @@
--- What is pattern-free: streams that are joined over a bridge, and a run of tops.
+-- What is pattern-free: streams that are joined over a bridge, a run of tops, and a run of zeros.
 use mathlib.Core.Path.{_≡_, refl, sym, _∙_}
 use mathlib.Core.Bool.{Bool, true, false, cond}
 use mathlib.Core.List.{List, [], _∷_, _++_, append-nil}
@@ -92,3 +92,9 @@ module _ (S : Patterns) where
   unfolding walk patternFree
   top-run-free apart zero = refl
   top-run-free apart (suc m) = sym (fresh-walk-is-patternFree S apart (replicate m (S .top))) ∙ rw (← (append-nil (replicate m (S .top)))) (walk-tops m [])
+
+  -- A run of zeros is pattern-free, where the middle set is without top and top is not 0.
+  pub zero-run-free : S .middle (S .top) ≡ false → 0 < S .top → (m : ℕ) → patternFree S (replicate m 0) ≡ true
+  unfolding walk
+  zero-run-free apart nonzero m =
+      sym (walk-is-patternFree S apart (replicate m 0)) ∙ rw (← (append-nil {A = ℕ} (replicate m 0))) (walk-zeros nonzero m 0 [])

@@ -1,0 +1,53 @@
+-- What a call that is done wrote and left, as its outcome shows it; and which words carry a message.
+use mathlib.Core.Path.{_≡_}
+use mathlib.Core.Bool.{Bool, true}
+use mathlib.Core.List.{List, _++_}
+use Prim.Native.Nat.{ℕ, _*_, _≤_}
+use lib.ListN.{length, take, drop}
+use Rattle.replies.specs.declared.Profile.{Profile}
+use Rattle.replies.specs.Replies.{done, isDone, Outcome}
+use Rattle.numbers.specs.Step.{messageOf}
+use Rattle.code.specs.Code.{legal, index}
+use Rattle.catalogue.specs.LengthLaws.{lengthOf}
+use Rattle.bits.specs.Bits.{bytesFor, packed}
+use Rattle.streams.specs.Streams.{Stream, streamLength}
+use Rattle.read_stream.specs.Reading.{silentRefusal}
+
+-- A call is done: its reply is number 0.
+abbrev pub Done : Outcome → Type 0
+Done outcome = outcome .answer .reply .number ≡ 0
+
+-- Done: so much is counted, the content stands in the lent list from the front, and behind it the list is as it was.
+abbrev pub doneWith : ℕ → List ℕ → List ℕ → Outcome
+doneWith count content lent = record { answer = record { reply = done; count = count }; lent = content ++ drop (length content) lent }
+
+-- The cells that a call wrote: as many as it counts, from the front of the lent list as it left it.
+abbrev pub cellsWritten : Outcome → List ℕ
+cellsWritten outcome = take (outcome .answer .count) (outcome .lent)
+
+-- A word carries a message: it gets none of 14, 15, 16.
+abbrev pub carriesMessage : Profile → List ℕ → Bool
+carriesMessage p w = isDone (silentRefusal p w)
+
+-- The message that it carries: its index less one.
+abbrev pub messageCarried : Profile → List ℕ → ℕ
+messageCarried p w = messageOf (index (p .q) (p .x) w)
+
+-- Room for the cells of n words with their bridges.
+abbrev pub Room : Profile → ℕ → List ℕ → Type 0
+Room p n lent = streamLength p n ≤ length lent
+
+-- A call is done: it wrote the stream of these words, pattern-free throughout, and left the rest of what was lent as it was.
+pub record WroteStream (p : Profile) (words : List (List ℕ)) (lent : List ℕ) (outcome : Outcome) : Type 0 where
+  pub wrote : outcome ≡ doneWith (length (cellsWritten outcome)) (cellsWritten outcome) lent
+  pub stream : Stream p words (cellsWritten outcome)
+  pub free : legal (p .q) (p .x) (cellsWritten outcome) ≡ true
+
+-- Room for the bits of n messages.
+abbrev pub BitRoom : Profile → ℕ → List ℕ → Type 0
+BitRoom p n lent = bytesFor (n * lengthOf p) ≤ length lent
+
+-- A call is done: it read n messages, which are these bits, packed from the front, and left the rest of what was lent as it was.
+pub record ReadBits (p : Profile) (n : ℕ) (bits lent : List ℕ) (outcome : Outcome) : Type 0 where
+  pub read : outcome ≡ doneWith (length bits) (packed bits) lent
+  pub count : length bits ≡ n * lengthOf p

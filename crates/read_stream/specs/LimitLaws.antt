@@ -1,0 +1,118 @@
+-- The word of the index 2^s: it exists, and a legal word stands behind it exactly if its index is above 2^s.
+use mathlib.Core.Path.{_≡_, refl, sym, _∙_}
+use mathlib.Core.Bool.{Bool, true, false}
+use mathlib.Core.List.{List, _++_}
+use Prim.Native.Nat.{ℕ, zero, suc, _+_, _*_, _/_, _%_, _^_, _≤_, _<_}
+use native.Mathlib.Nat.{le-refl, lt-of-lt-of-le, sub-le, zero-add, one-mul, mul-assoc, pow-zero, pow-succ', mod-lt, mod-eq-of-lt, div-lt-iff-lt-mul, div-add-mod}
+use native.Mathlib.Omega.{arith}
+use lib.Dec.{ltb, lit<}
+use lib.Pow.{pow-lt}
+use lib.ListN.{length, take, drop, set, replicate, length-set}
+use lib.Seq.{take-at}
+use borrow.Author.Tests.{ltb-true, ltb-false}
+use Rattle.limbs.specs.Limbs.{base, value, numberAt}
+use Rattle.limbs.specs.HoldingLaws.{numberAt-all}
+use Rattle.replies.specs.declared.Profile.{Profile}
+use Rattle.listing.specs.Listing.{before}
+use Rattle.listing.specs.Order.{lower-index-before}
+use Rattle.code.specs.Code.{LegalWord, N, legal, index, word}
+use Rattle.code.specs.Laws.{OneWord, one-word-of-index, index-in-order}
+use Rattle.code.specs.MessageLaws.{carrying-before-tops}
+use Rattle.catalogue.specs.HighestBit.{power-above}
+use Rattle.catalogue.specs.LengthLaws.{wordsOf, lengthOf, words-carry, length-below, CarriesMessages}
+
+-- The word of the index 2^s.
+unfoldable pub limitOf : Profile → List ℕ
+limitOf p = word (p .q) (p .x) (p .m) (2 ^ lengthOf p)
+
+-- Cells that are that word, and there is one.
+pub record Limits (p : Profile) (limit : List ℕ) : Type 0 where
+  pub exists : 2 ^ lengthOf p < wordsOf p
+  pub cells : limit ≡ limitOf p
+
+-- Where words carry messages there is one.
+limit-exists : {p : Profile} {table : List ℕ} → CarriesMessages p table → 2 ^ lengthOf p < wordsOf p
+limit-exists {p} h = lt-of-lt-of-le (carrying-before-tops (p .q) (p .x) (p .m) (words-carry p (h .carries))) (sub-le _ 1)
+
+zeros-hold : (n : ℕ) → value (replicate n 0) ≡ 0
+unfolding value
+zeros-hold zero = refl
+zeros-hold (suc n) = rw (zeros-hold n)
+
+-- One limb among limbs of 0 counts by its place.
+one-limb : (n k v : ℕ) → k < n → value (set (replicate n 0) k v) ≡ base ^ k * v
+unfolding value
+one-limb zero k v l = absurd (omega arith)
+one-limb (suc n) zero v l = rw (zeros-hold n, pow-zero base, one-mul) (omega arith)
+one-limb (suc n) (suc k) v l = rw (one-limb n k v (omega arith), pow-succ' base k, mul-assoc) (zero-add _)
+
+-- The limbs that hold 2^s.
+abbrev powerLimbs : ℕ → List ℕ
+powerLimbs s = set (replicate 10 0) (s / 64) (1 * 2 ^ (s % 64) % base)
+
+power-held : (s : ℕ) → s < 640 → numberAt 10 (powerLimbs s) 0 ≡ 2 ^ s
+power-held s l =
+    let bit : 1 * 2 ^ (s % 64) % base ≡ 2 ^ (s % 64) = rw one-mul (mod-eq-of-lt (pow-lt (mod-lt s (omega arith)))) in
+    let held = one-limb 10 (s / 64) (2 ^ (s % 64)) (div-lt-iff-lt-mul (lit< tt) .1 l) in
+    let ten : length (powerLimbs s) ≤ 10 = rw length-set (le-refl 10) in
+    rw (numberAt-all 10 (powerLimbs s) ten, bit, held, ← (power-above 64 (s / 64) (s % 64)), div-add-mod s 64)
+
+-- A profile that has words that carry messages, a table that belongs to it, and its message length.
+module _ {p : Profile} {table : List ℕ} {s : ℕ} (ready : CarriesMessages p table) (same : s ≡ lengthOf p) where
+  small : s < 640
+  small = rw same (length-below (ready .inRange) (ready .carries))
+
+  -- The bit of 2^s stands in one of ten limbs, and they hold it.
+  pub bit-inside : s / 64 < 10
+  bit-inside = div-lt-iff-lt-mul (lit< tt) .1 small
+
+  held : numberAt 10 (powerLimbs s) 0 ≡ 2 ^ lengthOf p
+  held = rw same (power-held (lengthOf p) (rw same at small))
+
+  -- There is a word of that index.
+  pub limit-below : numberAt 10 (powerLimbs s) 0 < wordsOf p
+  limit-below = rw held (limit-exists ready)
+
+  -- It is what is spelt.
+  pub limit-spelt : (lent : List ℕ) {after : List ℕ}
+      → after ≡ take 0 lent ++ (word (p .q) (p .x) (p .m) (numberAt 10 (powerLimbs s) 0) ++ drop (0 + p .m) lent)
+      → after ≡ limitOf p ++ drop (p .m) lent
+  unfolding limitOf
+  limit-spelt lent e = rw (held, zero-add) at e
+
+lower-before : (q x m : ℕ) (v w : List ℕ) → LegalWord q x m v → LegalWord q x m w → index q x v < index q x w → before v w ≡ true
+unfolding index
+lower-before q x m v w = lower-index-before q (legal q x) m v w
+
+-- The word of an index stands before a legal word exactly if the index is below that word's.
+pub index-above : (q x m i : ℕ) (w : List ℕ) → i < N q x m → LegalWord q x m w → before (word q x m i) w ≡ ltb i (index q x w)
+index-above q x m i w l r = go (before (word q x m i) w) refl (ltb i (index q x w)) refl
+  where
+    one : OneWord q x m i
+    one = one-word-of-index q x m i l
+
+    go : (a : Bool) → before (word q x m i) w ≡ a → (b : Bool) → ltb i (index q x w) ≡ b → a ≡ b
+    go true e true f = refl
+    go false e false f = refl
+    go true e false f =
+        let lower = index-in-order q x m (word q x m i) w (one .found) r e in absurd (omega (arith, one .its-index, ltb-false i (index q x w) f))
+    go false e true f = sym e ∙ lower-before q x m (word q x m i) w (one .found) r (rw (one .its-index) (ltb-true _ _ f))
+
+-- So comparing it with a legal word tells whether 15 applies.
+pub limit-tells : {p : Profile} {limit : List ℕ} (w : List ℕ) → Limits p limit → LegalWord (p .q) (p .x) (p .m) w
+    → before limit w ≡ ltb (2 ^ lengthOf p) (index (p .q) (p .x) w)
+unfolding limitOf
+limit-tells {p} w limits r = rw (limits .cells) (index-above (p .q) (p .x) (p .m) _ w (limits .exists) r)
+
+-- It is as long as every word, so it is what stands in its first m cells.
+limit-cells : (p : Profile) → 2 ^ lengthOf p < wordsOf p → length (limitOf p) ≡ p .m
+unfolding limitOf
+limit-cells p exists = one-word-of-index (p .q) (p .x) (p .m) _ exists .found .cells
+
+pub limit-length : {p : Profile} {limit : List ℕ} → Limits p limit → length limit ≡ p .m
+limit-length {p} limits = rw (limits .cells) (limit-cells p (limits .exists))
+
+pub limit-in-front : {p : Profile} {table : List ℕ} (rest : List ℕ) {limit : List ℕ} → CarriesMessages p table → limit ≡ limitOf p ++ rest
+    → Limits p (take (p .m) limit)
+limit-in-front {p} rest ready e =
+    let exists = limit-exists ready in record { exists = exists; cells = rw e (take-at (limitOf p) rest (p .m) (limit-cells p exists)) }

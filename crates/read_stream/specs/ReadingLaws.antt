@@ -1,0 +1,82 @@
+-- Laws of reading a stream: what each test lets through, and what is written where nothing is refused.
+use mathlib.Core.Path.{_≡_, refl, _∙_}
+use mathlib.Core.List.{List, _++_}
+use Prim.Native.Nat.{ℕ, _+_, _*_, _/_, _^_, _≤_, _<_}
+use native.Mathlib.Nat.{le-of-lt, lt-of-le-of-lt, mul-le-mul, zero-add}
+use native.Mathlib.Omega.{arith}
+use lib.Dec.{lit<}
+use lib.ListN.{length, take, drop}
+use lib.Seq.{take-at}
+use Rattle.replies.specs.declared.Reply.{Reply}
+use Rattle.replies.specs.declared.Profile.{Profile}
+use Rattle.replies.specs.Replies.{done, orElse, roomRefusal}
+use Rattle.replies.specs.ReplyLaws.{InRange, decides, leaves, both-done, has-room}
+use Rattle.replies.specs.WritingLaws.{Comes, writing-refused, writing-done}
+use Rattle.catalogue.specs.LengthLaws.{lengthOf, length-below, CarriesMessages}
+use Rattle.catalogue.specs.Rating.{carryingRefusal}
+use Rattle.bits.specs.Bits.{bytesFor, packed, withBits}
+use Rattle.bits.specs.WithLaws.{length-packedInto, with-bits-front}
+use Rattle.streams.specs.Streams.{wordsIn, fitRefusal}
+use Rattle.streams.specs.FitLaws.{Fits, not-refused-fits}
+use Rattle.read_stream.specs.Reading.{bitsIn, readRefusal, bitsRead, readingStream}
+use Rattle.read_stream.specs.LimitLaws.{limitOf, limit-in-front}
+use Rattle.read_stream.specs.TestLaws.{Testable, readRefusalFrom}
+use Rattle.read_stream.specs.CarrierLaws.{Readable}
+use Rattle.read_stream.specs.OutputLaws.{Room}
+
+-- The tests behind those of profile and table: length, room for the bytes, cells.
+abbrev pub streamReadRefusal : Profile → List ℕ → ℕ → Reply
+streamReadRefusal p cells lent =
+    orElse (fitRefusal p (length cells)) (orElse (roomRefusal (bytesFor (bitsIn p (length cells))) lent) (readRefusalFrom p 0 cells))
+
+-- The bits of a stream are few.
+pub bits-few : {p : Profile} {table : List ℕ} {cells n s : ℕ} → CarriesMessages p table → Fits p cells → n ≡ wordsIn p cells → s ≡ lengthOf p
+    → n * s ≤ 256 * 640
+bits-few ready fits e f = rw (e, f) (mul-le-mul (fits .few) (le-of-lt (length-below (ready .inRange) (ready .carries))))
+
+-- A stream that fits may be tested by a limit that was spelt.
+pub testable : {p : Profile} {table : List ℕ} (cells rest : List ℕ) {limit : List ℕ} → CarriesMessages p table → Fits p (length cells) → limit ≡ limitOf p ++ rest
+    → Testable p (take (p .m) limit) cells
+testable cells rest ready fits e = record { range = ready .inRange; limits = limit-in-front rest ready e; exact = fits .exact }
+
+-- What is known where nothing is refused.
+pub record Accepted (p : Profile) (cells out : List ℕ) : Type 0 where
+  pub fits : Fits p (length cells)
+  pub readable : Readable p cells
+  pub room : Room (bitsIn p (length cells)) 0 out
+
+pub accepted : {p : Profile} {table : List ℕ} (cells out : List ℕ) {r : Reply} → CarriesMessages p table → r ≡ streamReadRefusal p cells (length out) → r .number ≡ 0
+    → Accepted p cells out
+accepted {p} cells out ready e none =
+    let first = both-done _ _ (rw e at none) in
+    let second = both-done _ _ (first .second) in
+    let fits = not-refused-fits p (length cells) refl (first .first) in
+    let room = has-room _ (length out) (second .first) in
+    let few = bits-few ready fits refl refl in
+    record {
+      fits = fits;
+      readable = record { exact = fits .exact; place = 0; passed = second .second };
+      room = record { inside = omega arith; small = omega arith };
+    }
+
+-- A refusal writes nothing: one of profile or table, ..
+module _ (p : Profile) (table cells out : List ℕ) {handed : Reply} (e : handed ≡ carryingRefusal p table) where
+  pub reading-unready : (handed .number ≡ 0 → ⊥) → Comes (readingStream p table cells out) (record { reply = handed; count = 0 }) out
+  unfolding readingStream readRefusal
+  reading-unready n = writing-refused _ _ _ _ out (decides _ _ _ e n) n
+
+  -- .. or one of the stream.
+  pub reading-refused : {r : Reply} → handed .number ≡ 0 → r ≡ streamReadRefusal p cells (length out) → (r .number ≡ 0 → ⊥)
+      → Comes (readingStream p table cells out) (record { reply = r; count = 0 }) out
+  unfolding readingStream readRefusal
+  reading-refused z f n = writing-refused _ _ _ _ out (leaves _ _ _ _ e z f) n
+
+  -- Done writes the bits from the front.
+  pub reading-done : {r : Reply} {count : ℕ} {after : List ℕ} → handed .number ≡ 0 → r ≡ streamReadRefusal p cells (length out) → r .number ≡ 0
+      → count ≡ bitsIn p (length cells) → after ≡ withBits 0 (bitsRead p cells) out
+      → Comes (readingStream p table cells out) (record { reply = done; count = count }) after
+  unfolding readingStream readRefusal
+  reading-done z f y c a =
+      let bits = bitsRead p cells in
+      let front = with-bits-front bits out in
+      writing-done _ _ _ _ out (leaves _ _ _ _ e z f) y c (rw (length-packedInto (bytesFor (length bits)) bits) (a ∙ front))

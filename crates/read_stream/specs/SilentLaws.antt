@@ -1,0 +1,30 @@
+-- Laws of numbers 14, 15 and 16: which of them decides.
+use mathlib.Core.Path.{_≡_}
+use mathlib.Core.List.{List}
+use Prim.Native.Nat.{ℕ, _-_}
+use lib.Dec.{eqb}
+use Rattle.replies.specs.declared.Reply.{Reply}
+use Rattle.replies.specs.declared.Profile.{Profile}
+use Rattle.replies.specs.Replies.{refusedIf}
+use Rattle.replies.specs.ReplyLaws.{decides, leaves}
+use Rattle.listing.specs.Every.{every}
+use Rattle.listing.specs.Listing.{before}
+use Rattle.code.specs.Code.{LegalWord}
+use Rattle.read_stream.specs.Reading.{silentRefusal}
+use Rattle.read_stream.specs.LimitLaws.{Limits, limit-tells}
+
+-- A legal word, and the reply of the test for all 0: the first test that refuses decides.
+module _ {p : Profile} {limit w : List ℕ} (limits : Limits p limit) (word : LegalWord (p .q) (p .x) (p .m) w) {zeros : Reply}
+    (e : zeros ≡ refusedIf (every (λ c. eqb c 0) w) 14) where
+  pub zeros-decide : (zeros .number ≡ 0 → ⊥) → zeros ≡ silentRefusal p w
+  unfolding silentRefusal
+  zeros-decide n = decides zeros _ _ e n
+
+  pub above-decides : {above : Reply} → zeros .number ≡ 0 → above ≡ refusedIf (before limit w) 15 → (above .number ≡ 0 → ⊥) → above ≡ silentRefusal p w
+  unfolding silentRefusal
+  above-decides {above} z f n = leaves zeros above _ _ e z (decides above _ _ (rw (limit-tells w limits word) at f) n)
+
+  pub tops-decide : {above tops : Reply} → zeros .number ≡ 0 → above ≡ refusedIf (before limit w) 15 → above .number ≡ 0
+      → tops ≡ refusedIf (every (λ c. eqb c (p .q - 1)) w) 16 → tops ≡ silentRefusal p w
+  unfolding silentRefusal
+  tops-decide {above} {tops} z f y g = leaves zeros tops _ _ e z (leaves above tops _ _ (rw (limit-tells w limits word) at f) y g)

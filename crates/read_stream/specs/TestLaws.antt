@@ -1,0 +1,107 @@
+-- Laws of the tests that reading makes: what a word that passes them is, and how far in a refusal lies.
+use mathlib.Core.Path.{_≡_, sym, _∙_}
+use mathlib.Core.Bool.{Bool, true, false, and-eq-true-iff}
+use mathlib.Core.List.{List}
+use Prim.Native.Nat.{ℕ, zero, suc, _+_, _-_, _^_, _≤_, _<_}
+use native.Mathlib.Nat.{suc-mul}
+use native.Mathlib.Omega.{arith}
+use lib.Dec.{ltb, eqb}
+use lib.ListN.{length, take, drop}
+use lib.Seq.{take-add, length-take-le}
+use Rattle.replies.specs.declared.Reply.{Reply}
+use Rattle.replies.specs.declared.Profile.{Profile}
+use Rattle.replies.specs.Replies.{done, refusedIf, orElse, movedBy, lowest}
+use Rattle.replies.specs.ReplyLaws.{InRange, both-done, decides, leaves}
+use Rattle.listing.specs.Every.{every, every-append}
+use Rattle.code.specs.Code.{LegalWord, index}
+use Rattle.cells.specs.CellLaws.{cells-below, cells-legal}
+use Rattle.catalogue.specs.LengthLaws.{lengthOf}
+use Rattle.streams.specs.Streams.{streamLength, wordsIn, stride, partRefusal, throughout}
+use Rattle.streams.specs.FitLaws.{rest-of}
+use Rattle.streams.specs.PartLaws.{throughout-none, throughout-last, throughout-step, rest-exact, else-place, part-place}
+use Rattle.read_stream.specs.Reading.{silentRefusal, readPartRefusal}
+use Rattle.read_stream.specs.LimitLaws.{Limits}
+
+-- A part of a stream may be tested: the profile is in range, the limit is that of 15, and the part has whole words.
+pub record Testable (p : Profile) (limit part : List ℕ) : Type 0 where
+  pub range : InRange p
+  pub limits : Limits p limit
+  pub exact : length part ≡ streamLength p (wordsIn p (length part))
+
+-- A part that has cells begins with a word.
+pub word-inside : (p : Profile) (cells : ℕ) → cells ≡ streamLength p (wordsIn p cells) → 0 < cells → p .m ≤ cells
+word-inside p cells exact some = go (wordsIn p cells) exact
+  where
+    go : (n : ℕ) → cells ≡ streamLength p n → p .m ≤ cells
+    go zero e = absurd (omega arith)
+    go (suc n) e = omega (arith, suc-mul n (p .m))
+
+-- A word that 10 and 11 let through is legal.
+pub word-legal : (p : Profile) (part : List ℕ) {r : Reply} → p .m ≤ length part → r ≡ partRefusal p part → r .number ≡ 0
+    → LegalWord (p .q) (p .x) (p .m) (take (p .m) part)
+unfolding partRefusal
+word-legal p part inside e none =
+    let cells = both-done _ _ (rw e at none) in
+    let below = rw (take-add, every-append) at (cells-below (p .q) (take (stride p) part) (cells .first)) in
+    record {
+      cells = length-take-le (p .m) part inside;
+      levelled = and-eq-true-iff _ _ .0 below .0;
+      passes = cells-legal (p .q) (p .x) _ (both-done _ _ (cells .second) .first);
+    }
+
+-- The first test of a word that refuses decides.
+pub cells-decide : (p : Profile) (part : List ℕ) {r : Reply} → r ≡ partRefusal p part → (r .number ≡ 0 → ⊥) → r ≡ readPartRefusal p part
+unfolding readPartRefusal
+cells-decide p part e n = decides _ _ _ e n
+
+pub silence-decides : (p : Profile) (part : List ℕ) {r s : Reply} → r ≡ partRefusal p part → r .number ≡ 0
+    → s ≡ silentRefusal p (take (p .m) part) → s ≡ readPartRefusal p part
+unfolding readPartRefusal
+silence-decides p part e z f = leaves _ _ _ _ e z f
+
+-- A refusal from a word on lies in the word or its bridge.
+refused-if-place : (test : Bool) (number : ℕ) {most : ℕ} → refusedIf test number .place ≤ most
+refused-if-place true number = omega arith
+refused-if-place false number = omega arith
+
+silent-place : (a b c : Bool) {most : ℕ} → orElse (refusedIf a 14) (orElse (refusedIf b 15) (refusedIf c 16)) .place ≤ most
+silent-place a b c =
+    else-place (refusedIf a 14) _ (refused-if-place a 14) (else-place (refusedIf b 15) (refusedIf c 16) (refused-if-place b 15) (refused-if-place c 16))
+
+read-part-place : (p : Profile) (part : List ℕ) → readPartRefusal p part .place ≤ stride p
+unfolding readPartRefusal silentRefusal
+read-part-place p part =
+    let w = take (p .m) part in
+    let zeros = every (λ (c : ℕ). eqb c 0) w in
+    let above = ltb (2 ^ lengthOf p) (index (p .q) (p .x) w) in
+    else-place (partRefusal p part) (silentRefusal p w) (part-place p part) (silent-place zeros above (every (λ (c : ℕ). eqb c (p .q - 1)) w))
+
+-- So its place in the stream fits.
+pub place-fits : {p : Profile} (part : List ℕ) {r : Reply} {place : ℕ} → InRange p → r ≡ readPartRefusal p part → place < 2 ^ 32 → r .place + place < 2 ^ 64
+place-fits {p} part range e l = rw e (omega (arith, read-part-place p part, range .length .most, range .reach .most))
+
+-- The part behind a word and its bridge: shorter, and to be tested as this one.
+pub record Behind (p : Profile) (limit part : List ℕ) : Type 0 where
+  pub within : stride p < length part
+  pub testable : Testable p limit (drop (stride p) part)
+
+pub behind : {p : Profile} {limit : List ℕ} (part : List ℕ) → Testable p limit part → p .m < length part → Behind p limit part
+behind {p} part t more = record {
+  within = rest-of p (length part) (t .range) (t .exact) more .within;
+  testable = record { range = t .range; limits = t .limits; exact = rest-exact p part (t .range) (t .exact) more };
+}
+
+-- All tests of a part: those of its first word, and of the part behind it where there is one.
+abbrev pub readRefusalFrom : Profile → ℕ → List ℕ → Reply
+readRefusalFrom p place part = throughout p (readPartRefusal p) (wordsIn p (length part)) place part
+
+module _ {p : Profile} {limit : List ℕ} (place : ℕ) (part : List ℕ) (t : Testable p limit part) where
+  pub tests-none : length part ≡ 0 → done ≡ readRefusalFrom p place part
+  tests-none none = rw none (sym (throughout-none p (readPartRefusal p) place part (t .range)))
+
+  pub tests-last : {here : Reply} → here ≡ movedBy place (readPartRefusal p part) → 0 < length part → length part ≤ p .m → here ≡ readRefusalFrom p place part
+  tests-last e some last = e ∙ sym (throughout-last p (readPartRefusal p) place part (t .range) (t .exact) some last)
+
+  pub tests-more : {here further both : Reply} → here ≡ movedBy place (readPartRefusal p part) → p .m < length part
+      → further ≡ readRefusalFrom p (place + stride p) (drop (stride p) part) → both ≡ lowest here further → both ≡ readRefusalFrom p place part
+  tests-more e more f g = g ∙ rw (e, f) (sym (throughout-step p (readPartRefusal p) place part (t .range) (t .exact) more))

@@ -1,0 +1,59 @@
+// The messages of the words of a stream, written as bits.
+ghost use mathlib.Core.Path.{_≡_};
+ghost use lib.ListN.{length};
+ghost use Rattle.code.specs.Code.{index};
+ghost use Rattle.numbers.specs.Step.{messageOf};
+ghost use Rattle.bits.specs.Bits.{bitsOf, withBits};
+ghost use Rattle.read_stream.specs.Reading.{bitsIn, bitsRead};
+ghost use Rattle.read_stream.specs.CarrierLaws.{Carrier, Readable};
+ghost use Rattle.read_stream.specs.OutputLaws.{Found, Room};
+use numbers::Index;
+use replies::Profile;
+
+// Writes the s bits of the message that a word carries to `out` from bit place `at` on. The index is
+// summed up in the limbs that row m of the table uses.
+fn put_message(
+    p: Profile,
+    table: &[u64],
+    used: usize,
+    s: usize,
+    word: &[u8],
+    out: &mut [u8],
+    at: usize,
+)
+    requires { ⌜ Found p (now table) used s × Carrier p (now word) × Room s at (now out) ⌝ }
+    ensures { λ _. ⌜ now (out .exit) ≡ withBits at (bitsOf s (messageOf (index (p .q) (p .x) (now (word .entry))))) (now (out .entry)) ⌝ }
+{
+    let mut sum = [0; 10];
+    index_of_word::add_index(p.q, p.x, table, used, word, &mut sum);
+    let index = Index(sum);
+    let message = index.message();
+    let limbs = message.0;
+    bits::put_number(&limbs, s, out, at);
+}
+
+// Writes the bits of the messages of a part's words: the cells after a word and its bridge are handed
+// on as the part that starts m + x cells in.
+pub fn put_messages(
+    p: Profile,
+    table: &[u64],
+    used: usize,
+    s: usize,
+    part: &[u8],
+    out: &mut [u8],
+    at: usize,
+)
+    requires { ⌜ Found p (now table) used s × Readable p (now part) × Room (bitsIn p (length (now part))) at (now out) ⌝ }
+    ensures { λ _. ⌜ now (out .exit) ≡ withBits at (bitsRead p (now (part .entry))) (now (out .entry)) ⌝ }
+{
+    let m = p.m;
+    if part.len() == 0 {
+        return;
+    }
+    put_message(p, table, used, s, &part[..m], out, at);
+    if part.len() <= m {
+        return;
+    }
+    let next = m + p.x;
+    put_messages(p, table, used, s, &part[next..], out, at + s);
+}

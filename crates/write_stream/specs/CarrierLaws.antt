@@ -1,0 +1,118 @@
+-- Laws of the messages in bits, of the words that carry them, and of the length of their stream.
+use mathlib.Core.Path.{_≡_, refl, ap, _∙_}
+use mathlib.Core.Bool.{true, and-eq-true-iff}
+use mathlib.Core.List.{List, [], _∷_, _++_, map}
+use Prim.Native.Nat.{ℕ, zero, suc, _+_, _-_, _*_, _^_, _<_}
+use native.Mathlib.Nat.{zero-add, zero-mul, suc-add, suc-mul, pos-of-ne-zero}
+use native.Mathlib.Omega.{arith}
+use lib.ListN.{length, take, drop, length-map}
+use lib.Seq.{take-nil, take-take, drop-drop}
+use borrow.Author.Tests.{eqb-true, eq-eqb}
+use Rattle.limbs.specs.Limbs.{base}
+use Rattle.numbers.specs.Step.{indexOf}
+use Rattle.replies.specs.declared.Profile.{Profile}
+use Rattle.patterns.specs.Stream.{filled, hasLength, streamOf}
+use Rattle.patterns.specs.StreamLaws.{stream-length}
+use Rattle.listing.specs.Every.{every}
+use Rattle.code.specs.Laws.{one-word-of-index}
+use Rattle.code.specs.MessageLaws.{length-positive, carrying-before-tops}
+use Rattle.code.specs.Sizes.{count-fits}
+use Rattle.catalogue.specs.LengthLaws.{wordsOf, lengthOf, length-below}
+use Rattle.catalogue.specs.Rating.{messageRefusal}
+use Rattle.bits.specs.Bits.{numberOf, bitsOfBytes, messagesIn}
+use Rattle.bits.specs.BitLaws.{drop-bits, numberOf-take-below, bitsOfBytes-bits}
+use Rattle.streams.specs.Streams.{patternsOf, streamLength}
+use Rattle.write_stream.specs.Writing.{carrier}
+use Rattle.write_stream.specs.Steps.{carriers, Ready}
+
+-- One message more.
+pub messages-more : (s k : ℕ) (bits : List ℕ) → messagesIn s (suc k) bits ≡ messagesIn s k bits ++ (numberOf (take s (drop (k * s) bits)) ∷ [])
+unfolding messagesIn
+messages-more s zero bits = rw zero-mul
+messages-more s (suc k) bits =
+    let place : s + k * s ≡ suc k * s = rw suc-mul (omega arith) in
+    ap (λ (l : List ℕ). numberOf (take s bits) ∷ l) (rw (drop-drop (k * s) s bits, place) at (messages-more s k (drop s bits)))
+
+drop-take : (n m : ℕ) (l : List ℕ) → drop n (take (n + m) l) ≡ take m (drop n l)
+drop-take zero m l = rw zero-add
+drop-take (suc n) m [] = rw (take-nil (suc n + m), take-nil m)
+drop-take (suc n) m (a ∷ l) = rw suc-add (drop-take n m l)
+
+-- What stands behind the bits of n messages does not matter.
+pub messages-within : (s n : ℕ) (bits : List ℕ) → messagesIn s n (take (n * s) bits) ≡ messagesIn s n bits
+unfolding messagesIn
+messages-within s zero bits = refl
+messages-within s (suc n) bits =
+    let place : suc n * s ≡ s + n * s = rw suc-mul (omega arith) in
+    rw (place, take-take s (s + n * s) bits (omega arith), drop-take s (n * s) bits, messages-within s n (drop s bits))
+
+-- A message of s bits is below 2^s.
+pub number-below : (s at : ℕ) (bytes : List ℕ) → numberOf (take s (drop at (bitsOfBytes bytes))) < 2 ^ s
+number-below s at bytes = numberOf-take-below s _ (drop-bits at _ (bitsOfBytes-bits bytes))
+
+length-messages : (s n : ℕ) (bits : List ℕ) → length (messagesIn s n bits) ≡ n
+unfolding messagesIn
+length-messages s zero bits = refl
+length-messages s (suc n) bits = ap suc (length-messages s n (drop s bits))
+
+-- Messages of s bits are carried: s is from 1 to 639, the indices 1 to 2^s are those of words before that of all top, and N(m) fits ten limbs.
+pub record Carries (p : Profile) (s : ℕ) : Type 0 where
+  pub some : 0 < s
+  pub most : s < 640
+  pub within : 2 ^ s < wordsOf p - 1
+  pub fits : wordsOf p < base ^ 10
+
+some-length : (p : Profile) → messageRefusal p .number ≡ 0 → 0 < lengthOf p
+unfolding messageRefusal
+some-length p carries = pos-of-ne-zero (λ none. let four = rw (eq-eqb (lengthOf p) 0 none) at carries in omega arith)
+
+-- They are where numbers 1 to 6 do not apply.
+pub carries : {p : Profile} {table : List ℕ} {s : ℕ} → Ready p table s → Carries p s
+carries {p} ready =
+    let range = ready .carrying .inRange in
+    let some = some-length p (ready .carrying .carries) in
+    let four = length-positive (p .q) (p .x) (p .m) .0 some in
+    rw (ready .length) (record {
+      some = some;
+      most = length-below range (ready .carrying .carries);
+      within = carrying-before-tops (p .q) (p .x) (p .m) (omega arith);
+      fits = count-fits (p .q) (p .x) (p .m) (range .levels .least) (range .levels .most) (range .length .most) (range .reach .least);
+    })
+
+-- The index of a message of s bits is that of a word.
+pub index-below : {p : Profile} {s v : ℕ} → Carries p s → v < 2 ^ s → indexOf v < wordsOf p
+index-below c l = omega (arith, c .within)
+
+-- So the word that carries it has m cells.
+pub length-carrier : {p : Profile} {s v : ℕ} → Carries p s → v < 2 ^ s → length (carrier p v) ≡ p .m
+length-carrier {p} c l = one-word-of-index (p .q) (p .x) (p .m) _ (index-below c l) .found .cells
+
+carriers-long : {p : Profile} {s : ℕ} (n at : ℕ) (bytes : List ℕ) → Carries p s
+    → every (hasLength (p .m)) (map (carrier p) (messagesIn s n (drop at (bitsOfBytes bytes)))) ≡ true
+unfolding messagesIn
+carriers-long zero at bytes c = refl
+carriers-long {p} {s} (suc n) at bytes c =
+    let first = length-carrier c (number-below s at bytes) in
+    let others = rw (← (drop-drop s at (bitsOfBytes bytes))) at (carriers-long n (at + s) bytes c) in
+    rw (eq-eqb _ _ first, others)
+
+-- Words of m cells have cells.
+filled-words : (m : ℕ) (words : List (List ℕ)) → 0 < m → every (hasLength m) words ≡ true → every filled words ≡ true
+filled-words m [] some h = refl
+filled-words m (w ∷ words) some h =
+    let p = and-eq-true-iff (hasLength m w) (every (hasLength m) words) .0 h in
+    rw (cell-first w (eqb-true (length w) m (p .0)), filled-words m words some (p .1))
+  where
+    cell-first : (w : List ℕ) → length w ≡ m → filled w ≡ true
+    cell-first [] e = absurd (omega arith)
+    cell-first (c ∷ w) e = refl
+
+-- The words that carry the first n messages have cells, ..
+pub carriers-filled : {p : Profile} {s : ℕ} (n : ℕ) (bytes : List ℕ) → Carries p s → 0 < p .m → every filled (carriers p s bytes n) ≡ true
+carriers-filled {p} {s} n bytes c some = filled-words (p .m) (carriers p s bytes n) some (carriers-long n 0 bytes c)
+
+-- .. and their stream is as long as that of n words.
+pub length-written : {p : Profile} {s : ℕ} (n : ℕ) (bytes : List ℕ) → Carries p s → length (streamOf (patternsOf p) (carriers p s bytes n)) ≡ streamLength p n
+length-written {p} {s} n bytes c =
+    let words : length (carriers p s bytes n) ≡ n = length-map (messagesIn s n (bitsOfBytes bytes)) (carrier p) ∙ length-messages s n (bitsOfBytes bytes) in
+    rw words at (stream-length (patternsOf p) (p .m) (carriers p s bytes n) (carriers-long n 0 bytes c))
