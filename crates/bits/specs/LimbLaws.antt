@@ -3,7 +3,7 @@ use mathlib.Core.Path.{_≡_, refl, sym, ap, _∙_}
 use mathlib.Core.Bool.{Bool, true, false}
 use mathlib.Core.List.{List}
 use Prim.Native.Nat.{ℕ, zero, suc, min, _+_, _-_, _*_, _/_, _%_, _^_, _≤_, _<_}
-use native.Mathlib.Nat.{zero-add, add-comm, mul-comm, mul-assoc, mul-suc, sub-self, pow-suc, div-eq-of-lt, mod-eq-of-lt, add-mul-div-left, lt-of-lt-of-le, div-one, div-div-eq-div-mul}
+use native.Mathlib.Nat.{zero-add, add-zero, mul-one, pow-zero, add-comm, mul-comm, mul-assoc, sub-self, pow-suc, div-eq-of-lt, mod-eq-of-lt, add-mul-div-left, lt-of-lt-of-le, div-one, div-div-eq-div-mul}
 use native.Mathlib.Numerals.{add-one}
 use native.Mathlib.Omega.{arith}
 use borrow.Author.Tests.{ltb-true, ltb-false}
@@ -13,7 +13,7 @@ use lib.Pow.{pow-add, pow-mono}
 use lib.Arith.{digits-div, digits-mod}
 use lib.Seq.{take-add, drop-drop, drop-cons, set-at, append-snoc, getD-take}
 use Rattle.limbs.specs.Limbs.{base, allLimbs, value, limbsOf, numberAt, holding}
-use Rattle.limbs.specs.ValueLaws.{base-positive, power-positive, length-limbsOf, limbsOf-more, value-append, value-below}
+use Rattle.limbs.specs.ValueLaws.{base-positive, power-positive, length-limbsOf, limbsOf-more, value-append, value-below, power-above}
 use Rattle.bits.specs.Bits.{bitsOf, numberOf, bitsOfBytes, withBits}
 use Rattle.bits.specs.BitLaws.{allBits, take-below, drop-bits, numberOf-append, numberOf-take-below, bitsOf-above, length-bitsOfBytes, bitsOfBytes-bits}
 use Rattle.bits.specs.MovingLaws.{numberFrom, Written, written-more}
@@ -95,8 +95,7 @@ limbs-read-more {bytes} {at} {s} {i} {left} {before} {now} so {k} least {limb} r
 
 -- A limb has 64 bits: the powers of the base are powers of 2.
 power-of-base : (j : ℕ) → base ^ j ≡ 2 ^ (64 * j)
-power-of-base zero = refl
-power-of-base (suc j) = rw (pow-suc base j, mul-suc 64 j, pow-add 2 (64 * j) 64, power-of-base j)
+power-of-base j = sym (rw (add-zero, pow-zero, mul-one) at (power-above 64 j 0))
 
 -- What stands above the j lowest limbs of a list.
 value-above : (l : List ℕ) (j : ℕ) → allLimbs l → j ≤ length l → value l / base ^ j ≡ value (drop j l)

@@ -2,18 +2,18 @@
 use mathlib.Core.Path.{_≡_, sym}
 use mathlib.Core.List.{List, [], _∷_}
 use Prim.Native.Nat.{ℕ, zero, suc, _+_, _-_, _*_, _^_, _≤_, _<_}
-use native.Mathlib.Nat.{le-antisymm, le-trans, lt-of-not-le, suc-inj, zero-add, add-suc, add-comm, add-assoc}
-use native.Mathlib.Nat.{mul-zero, one-mul, mul-suc, mul-comm, mul-assoc, mul-le-mul-left, pow-zero, pow-suc}
+use native.Mathlib.Nat.{le-antisymm, le-trans, lt-of-not-le, suc-inj, zero-add, add-suc, add-comm}
+use native.Mathlib.Nat.{mul-suc, mul-comm, mul-le-mul-left}
 use native.Mathlib.Numerals.{sub-one}
 use native.Mathlib.Omega.{arith}
-use lib.Pow.{pow-add, pow-mono}
+use lib.Pow.{pow-mono}
 use lib.Arith.{digits-lt}
 use lib.Count.{leadingZeros, leading-top}
 use lib.ListN.{getD, take, drop, length-take}
 use lib.Seq.{getD-take}
 use Rattle.limbs.specs.Limbs.{base, numberAt, used, usedWith, allLimbs}
 use Rattle.limbs.specs.UsedLaws.{used-length, numberAt-used, numberAt-below-used}
-use Rattle.limbs.specs.ValueLaws.{numberAt-more, numberAt-below}
+use Rattle.limbs.specs.ValueLaws.{numberAt-more, numberAt-below, power-above}
 use Rattle.code.specs.MessageLaws.{Largest}
 
 largest-within : {n s t : ℕ} → Largest n s → Largest n t → s ≤ t
@@ -37,12 +37,6 @@ highest-in-use : (l : List ℕ) (n : ℕ) → used l ≡ suc n → 0 < getD l n 
 unfolding used
 highest-in-use [] n e = absurd (omega arith)
 highest-in-use (x ∷ xs) n e = used-with-some x (used xs) n xs (highest-in-use xs) e
-
--- A bit above n limbs of w bits.
-pub power-above : (w n b : ℕ) → 2 ^ (w * n + b) ≡ (2 ^ w) ^ n * 2 ^ b
-power-above w zero b = rw (mul-zero, pow-zero (2 ^ w), zero-add, one-mul)
-power-above w (suc n) b =
-    rw (mul-suc, add-assoc, power-above w n (w + b), pow-add 2 w b, pow-suc (2 ^ w) n) (sym (mul-assoc ((2 ^ w) ^ n) (2 ^ w) (2 ^ b)))
 
 -- The highest bit of a number of n + 1 limbs is that of its highest limb, 64 n places up.
 largest-by-limb : (n : ℕ) (l : List ℕ) (b : ℕ) → allLimbs l → Largest (getD l n 0) b → Largest (numberAt (suc n) l 0) (64 * n + b)

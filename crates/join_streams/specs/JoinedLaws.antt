@@ -3,15 +3,15 @@ use mathlib.Core.Path.{_≡_, refl, sym, _∙_}
 use mathlib.Core.Bool.{Bool, true, false, cond, _||_}
 use mathlib.Core.List.{List, [], _∷_, _++_, append-assoc, append-nil}
 use Prim.Native.Nat.{ℕ, zero, suc, _+_, _-_, _≤_, _<_}
-use native.Mathlib.Nat.{zero-add, add-assoc}
+use native.Mathlib.Nat.{zero-add}
 use native.Mathlib.Omega.{arith}
 use lib.Dec.{eqb}
 use lib.ListN.{length, take, drop, getD, length-append, length-replicate, length-drop}
-use lib.Seq.{length-take-le, take-append-seam, take-append-add, drop-append-add, drop-at, drop-drop}
+use lib.Seq.{length-take-le}
 use borrow.Author.Tests.{ne-eqb}
 use Rattle.patterns.specs.Pattern.{Patterns}
-use Rattle.patterns.specs.Stream.{bridge, firstCell, lastCell, joined}
-use Rattle.streams.specs.BridgeLaws.{first-from, last-of}
+use Rattle.patterns.specs.Stream.{bridge, joined}
+use Rattle.streams.specs.BesideLaws.{cells-behind, bridge-between}
 
 -- How many bridge cells stand between streams of a and b cells: the reach where both have cells.
 abbrev pub cellsBetween : ℕ → ℕ → ℕ → ℕ
@@ -30,10 +30,6 @@ between-most reach a b = go (eqb a 0 || eqb b 0)
     go : (none : Bool) → cond none 0 reach ≤ reach
     go true = omega arith
     go false = omega arith
-
-first-append : (b rest : List ℕ) → 0 < length b → firstCell (b ++ rest) ≡ firstCell b
-first-append [] rest some = absurd (omega arith)
-first-append (d ∷ b) rest some = refl
 
 module _ (S : Patterns) where
   -- The joined stream has the cells of both and of the bridge.
@@ -59,12 +55,6 @@ module _ (S : Patterns) where
   bridged (suc a) zero e n = absurd (n (e ∙ none-between (S .reach) a))
   bridged (suc a) (suc b) e n = record { first = omega arith; second = omega arith; apart = e ∙ some-between (S .reach) a b }
 
-  joined-bridged : (a b : List ℕ) → 0 < length a → 0 < length b → joined S a b ≡ a ++ (bridge S (lastCell a) (firstCell b) ++ b)
-  unfolding joined
-  joined-bridged [] b some more = absurd (omega arith)
-  joined-bridged (c ∷ a) [] some more = absurd (omega arith)
-  joined-bridged (c ∷ a) (d ∷ b) some more = refl
-
   -- .. else one of them has none.
   joined-apart : (a b : List ℕ) → 0 < S .reach → cellsBetween (S .reach) (length a) (length b) ≡ 0 → joined S a b ≡ a ++ b
   unfolding joined
@@ -72,30 +62,12 @@ module _ (S : Patterns) where
   joined-apart (c ∷ a) [] some none = sym (append-nil (c ∷ a))
   joined-apart (c ∷ a) (d ∷ b) some none = absurd (omega (arith, some-between (S .reach) (length a) (length b)))
 
-  -- A bridge that goes by the cells beside it, between two streams that stand a reach apart, makes them the joined stream.
-  bridge-between : (a b gap rest : List ℕ) → 0 < length a → 0 < length b → length gap ≡ S .reach
-      → let all = a ++ (gap ++ (b ++ rest)) in
-      take (length a) all ++ (bridge S (getD all (length a - 1) 0) (getD all (length a + S .reach) 0) ++ drop (length a + S .reach) all)
-      ≡ joined S a b ++ rest
-  bridge-between a b gap rest some more wide =
-      let more-cells = gap ++ (b ++ rest) in
-      let before = take-append-seam a more-cells in
-      let behind = drop-append-add a more-cells (S .reach) ∙ drop-at gap (b ++ rest) (S .reach) wide in
-      let here = rw before at (last-of (length a) (a ++ more-cells) some (rw length-append (omega arith))) in
-      let there = rw (behind, first-append b rest more) at (first-from (length a + S .reach) (a ++ more-cells)) in
-      rw (before, ← here, ← there, behind, joined-bridged a b some more) (simp append-assoc)
-
   -- Both streams copied to the front of a lent list, so many cells apart as the bridge has.
   module _ (a b lent : List ℕ) {between : ℕ} (apart : between ≡ cellsBetween (S .reach) (length a) (length b)) {one two : List ℕ}
       (copied-first : one ≡ take 0 lent ++ (a ++ drop (0 + length a) lent))
       (copied-second : two ≡ take (length a + between) one ++ (b ++ drop (length a + between + length b) one)) where
     both-copied : two ≡ a ++ (take between (drop (length a) lent) ++ (b ++ drop (length a + between + length b) lent))
-    both-copied =
-        let first = rw zero-add at copied-first in
-        let kept = take-append-add a (drop (length a) lent) between in
-        let end = length a + between + length b in
-        let behind : drop end (a ++ drop (length a) lent) ≡ drop end lent = rw (add-assoc, drop-append-add, drop-drop) in
-        copied-second ∙ rw (first, kept, behind, append-assoc)
+    both-copied = copied-second ∙ cells-behind a b lent between (rw zero-add at copied-first)
 
     -- Where there is no bridge, that is the joined stream.
     pub without-bridge : 0 < S .reach → between ≡ 0 → two ≡ joined S a b ++ drop (length (joined S a b)) lent
@@ -112,4 +84,4 @@ module _ (S : Patterns) where
         let both = bridged (length a) (length b) apart some in
         let long = joined-count a b apart in
         let wide : length gap ≡ between = length-take-le between (drop (length a) lent) (rw length-drop (omega arith)) in
-        rw both-copied at e ∙ bridge-between a b gap rest (both .first) (both .second) (wide ∙ both .apart) ∙ rw long
+        rw both-copied at e ∙ bridge-between S a b gap rest (both .first) (both .second) (wide ∙ both .apart) ∙ rw long

@@ -1,6 +1,8 @@
--- Reading holds the definitions.
+-- Reading holds the definitions, Examples the worked examples; the other files hold the laws.
 pub mod Reading
+pub mod Examples
 pub mod WalkLaws
+pub mod PowerLimbs
 pub mod LimitLaws
 pub mod SilentLaws
 pub mod TestLaws

@@ -2,24 +2,22 @@
 use mathlib.Core.Path.{_≡_, refl, sym, _∙_}
 use mathlib.Core.Bool.{Bool, true, false}
 use mathlib.Core.List.{List, _++_}
-use Prim.Native.Nat.{ℕ, zero, suc, _+_, _*_, _/_, _%_, _^_, _≤_, _<_}
-use native.Mathlib.Nat.{le-refl, lt-of-lt-of-le, sub-le, zero-add, one-mul, mul-assoc, pow-zero, pow-succ', mod-lt, mod-eq-of-lt, div-lt-iff-lt-mul, div-add-mod}
+use Prim.Native.Nat.{ℕ, _+_, _/_, _^_, _<_}
+use native.Mathlib.Nat.{lt-of-lt-of-le, sub-le, zero-add}
 use native.Mathlib.Omega.{arith}
-use lib.Dec.{ltb, lit<}
-use lib.Pow.{pow-lt}
-use lib.ListN.{length, take, drop, set, replicate, length-set}
+use lib.Dec.{ltb}
+use lib.ListN.{length, take, drop}
 use lib.Seq.{take-at}
 use borrow.Author.Tests.{ltb-true, ltb-false}
-use Rattle.limbs.specs.Limbs.{base, value, numberAt}
-use Rattle.limbs.specs.HoldingLaws.{numberAt-all}
+use Rattle.limbs.specs.Limbs.{numberAt}
 use Rattle.replies.specs.declared.Profile.{Profile}
 use Rattle.listing.specs.Listing.{before}
 use Rattle.listing.specs.Order.{lower-index-before}
 use Rattle.code.specs.Code.{LegalWord, N, legal, index, word}
 use Rattle.code.specs.Laws.{OneWord, one-word-of-index, index-in-order}
 use Rattle.code.specs.MessageLaws.{carrying-before-tops}
-use Rattle.catalogue.specs.HighestBit.{power-above}
 use Rattle.catalogue.specs.LengthLaws.{wordsOf, lengthOf, words-carry, length-below, CarriesMessages}
+use Rattle.read_stream.specs.PowerLimbs.{powerLimbs, bit-inside, power-held}
 
 -- The word of the index 2^s.
 unfoldable pub limitOf : Profile → List ℕ
@@ -34,37 +32,14 @@ pub record Limits (p : Profile) (limit : List ℕ) : Type 0 where
 limit-exists : {p : Profile} {table : List ℕ} → CarriesMessages p table → 2 ^ lengthOf p < wordsOf p
 limit-exists {p} h = lt-of-lt-of-le (carrying-before-tops (p .q) (p .x) (p .m) (words-carry p (h .carries))) (sub-le _ 1)
 
-zeros-hold : (n : ℕ) → value (replicate n 0) ≡ 0
-unfolding value
-zeros-hold zero = refl
-zeros-hold (suc n) = rw (zeros-hold n)
-
--- One limb among limbs of 0 counts by its place.
-one-limb : (n k v : ℕ) → k < n → value (set (replicate n 0) k v) ≡ base ^ k * v
-unfolding value
-one-limb zero k v l = absurd (omega arith)
-one-limb (suc n) zero v l = rw (zeros-hold n, pow-zero base, one-mul) (omega arith)
-one-limb (suc n) (suc k) v l = rw (one-limb n k v (omega arith), pow-succ' base k, mul-assoc) (zero-add _)
-
--- The limbs that hold 2^s.
-abbrev powerLimbs : ℕ → List ℕ
-powerLimbs s = set (replicate 10 0) (s / 64) (1 * 2 ^ (s % 64) % base)
-
-power-held : (s : ℕ) → s < 640 → numberAt 10 (powerLimbs s) 0 ≡ 2 ^ s
-power-held s l =
-    let bit : 1 * 2 ^ (s % 64) % base ≡ 2 ^ (s % 64) = rw one-mul (mod-eq-of-lt (pow-lt (mod-lt s (omega arith)))) in
-    let held = one-limb 10 (s / 64) (2 ^ (s % 64)) (div-lt-iff-lt-mul (lit< tt) .1 l) in
-    let ten : length (powerLimbs s) ≤ 10 = rw length-set (le-refl 10) in
-    rw (numberAt-all 10 (powerLimbs s) ten, bit, held, ← (power-above 64 (s / 64) (s % 64)), div-add-mod s 64)
-
 -- A profile that has words that carry messages, a table that belongs to it, and its message length.
 module _ {p : Profile} {table : List ℕ} {s : ℕ} (ready : CarriesMessages p table) (same : s ≡ lengthOf p) where
   small : s < 640
   small = rw same (length-below (ready .inRange) (ready .carries))
 
   -- The bit of 2^s stands in one of ten limbs, and they hold it.
-  pub bit-inside : s / 64 < 10
-  bit-inside = div-lt-iff-lt-mul (lit< tt) .1 small
+  pub limb-of-limit : s / 64 < 10
+  limb-of-limit = bit-inside s small
 
   held : numberAt 10 (powerLimbs s) 0 ≡ 2 ^ lengthOf p
   held = rw same (power-held (lengthOf p) (rw same at small))

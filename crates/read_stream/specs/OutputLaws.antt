@@ -1,6 +1,6 @@
 -- Laws of the bits that are written: those of one word's message, and behind them those of the words behind it.
-use mathlib.Core.Path.{_≡_, refl, sym, _∙_}
-use mathlib.Core.List.{List, [], _++_, map, append-nil}
+use mathlib.Core.Path.{_≡_, _∙_}
+use mathlib.Core.List.{List, [], _++_, append-nil}
 use Prim.Native.Nat.{ℕ, zero, suc, _+_, _-_, _*_, _^_, _≤_, _<_}
 use native.Mathlib.Nat.{lt-trans, lt-of-le-of-lt, le-of-lt, le-of-eq, sub-le, suc-mul}
 use native.Mathlib.Omega.{arith}
@@ -18,7 +18,7 @@ use Rattle.index_of_word.specs.Whole.{Indexable, withIndex}
 use Rattle.catalogue.specs.LengthLaws.{lengthOf, words-fit, length-below, CarriesMessages}
 use Rattle.bits.specs.Bits.{bitsOf, bitsOfMessages, withBits}
 use Rattle.bits.specs.BitLaws.{length-bitsOf, bitsOf-bits}
-use Rattle.bits.specs.WithLaws.{with-bits-more, length-with-bits}
+use Rattle.bits.specs.WithLaws.{with-bits-more}
 use Rattle.streams.specs.Streams.{streamLength, stride, wordsIn, firstWords}
 use Rattle.streams.specs.FitLaws.{no-word, last-word, rest-of}
 use Rattle.read_stream.specs.Reading.{bitsIn, bitsRead}

@@ -1,20 +1,18 @@
 -- Laws of reading a stream: what each test lets through, and what is written where nothing is refused.
 use mathlib.Core.Path.{_≡_, refl, _∙_}
 use mathlib.Core.List.{List, _++_}
-use Prim.Native.Nat.{ℕ, _+_, _*_, _/_, _^_, _≤_, _<_}
-use native.Mathlib.Nat.{le-of-lt, lt-of-le-of-lt, mul-le-mul, zero-add}
+use Prim.Native.Nat.{ℕ, _*_, _≤_}
+use native.Mathlib.Nat.{le-of-lt, mul-le-mul}
 use native.Mathlib.Omega.{arith}
-use lib.Dec.{lit<}
-use lib.ListN.{length, take, drop}
-use lib.Seq.{take-at}
+use lib.ListN.{length, take}
 use Rattle.replies.specs.declared.Reply.{Reply}
 use Rattle.replies.specs.declared.Profile.{Profile}
 use Rattle.replies.specs.Replies.{done, orElse, roomRefusal}
-use Rattle.replies.specs.ReplyLaws.{InRange, decides, leaves, both-done, has-room}
+use Rattle.replies.specs.ReplyLaws.{decides, leaves, both-done, has-room}
 use Rattle.replies.specs.WritingLaws.{Comes, writing-refused, writing-done}
 use Rattle.catalogue.specs.LengthLaws.{lengthOf, length-below, CarriesMessages}
 use Rattle.catalogue.specs.Rating.{carryingRefusal}
-use Rattle.bits.specs.Bits.{bytesFor, packed, withBits}
+use Rattle.bits.specs.Bits.{bytesFor, withBits}
 use Rattle.bits.specs.WithLaws.{length-packedInto, with-bits-front}
 use Rattle.streams.specs.Streams.{wordsIn, fitRefusal}
 use Rattle.streams.specs.FitLaws.{Fits, not-refused-fits}

@@ -1,15 +1,17 @@
--- Laws of numbers 14, 15 and 16: which of them decides.
-use mathlib.Core.Path.{_≡_}
+-- Laws of numbers 14, 15 and 16: which of them decides, and at which place.
+use mathlib.Core.Path.{_≡_, refl}
+use mathlib.Core.Bool.{Bool, true, false}
 use mathlib.Core.List.{List}
-use Prim.Native.Nat.{ℕ, _-_}
-use lib.Dec.{eqb}
+use Prim.Native.Nat.{ℕ, _-_, _^_}
+use lib.Dec.{ltb, eqb}
 use Rattle.replies.specs.declared.Reply.{Reply}
 use Rattle.replies.specs.declared.Profile.{Profile}
-use Rattle.replies.specs.Replies.{refusedIf}
+use Rattle.replies.specs.Replies.{refusedIf, orElse}
 use Rattle.replies.specs.ReplyLaws.{decides, leaves}
 use Rattle.listing.specs.Every.{every}
 use Rattle.listing.specs.Listing.{before}
-use Rattle.code.specs.Code.{LegalWord}
+use Rattle.code.specs.Code.{LegalWord, index}
+use Rattle.catalogue.specs.LengthLaws.{lengthOf}
 use Rattle.read_stream.specs.Reading.{silentRefusal}
 use Rattle.read_stream.specs.LimitLaws.{Limits, limit-tells}
 
@@ -28,3 +30,14 @@ module _ {p : Profile} {limit w : List ℕ} (limits : Limits p limit) (word : Le
       → tops ≡ refusedIf (every (λ c. eqb c (p .q - 1)) w) 16 → tops ≡ silentRefusal p w
   unfolding silentRefusal
   tops-decide {above} {tops} z f y g = leaves zeros tops _ _ e z (leaves above tops _ _ (rw (limit-tells w limits word) at f) y g)
+
+-- Each is given at the word's first cell.
+pub silent-place : (p : Profile) (w : List ℕ) → silentRefusal p w .place ≡ 0
+unfolding silentRefusal orElse
+silent-place p w = go (every (λ c. eqb c 0) w) (ltb (2 ^ lengthOf p) (index (p .q) (p .x) w)) (every (λ c. eqb c (p .q - 1)) w)
+  where
+    go : (a b c : Bool) → orElse (refusedIf a 14) (orElse (refusedIf b 15) (refusedIf c 16)) .place ≡ 0
+    go true b c = refl
+    go false true c = refl
+    go false false true = refl
+    go false false false = refl

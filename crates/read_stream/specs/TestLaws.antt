@@ -1,26 +1,25 @@
 -- Laws of the tests that reading makes: what a word that passes them is, and how far in a refusal lies.
 use mathlib.Core.Path.{_≡_, sym, _∙_}
-use mathlib.Core.Bool.{Bool, true, false, and-eq-true-iff}
+use mathlib.Core.Bool.{and-eq-true-iff}
 use mathlib.Core.List.{List}
-use Prim.Native.Nat.{ℕ, zero, suc, _+_, _-_, _^_, _≤_, _<_}
+use Prim.Native.Nat.{ℕ, zero, suc, _+_, _^_, _≤_, _<_}
 use native.Mathlib.Nat.{suc-mul}
 use native.Mathlib.Omega.{arith}
-use lib.Dec.{ltb, eqb}
 use lib.ListN.{length, take, drop}
 use lib.Seq.{take-add, length-take-le}
 use Rattle.replies.specs.declared.Reply.{Reply}
 use Rattle.replies.specs.declared.Profile.{Profile}
-use Rattle.replies.specs.Replies.{done, refusedIf, orElse, movedBy, lowest}
+use Rattle.replies.specs.Replies.{done, movedBy, lowest}
 use Rattle.replies.specs.ReplyLaws.{InRange, both-done, decides, leaves}
-use Rattle.listing.specs.Every.{every, every-append}
-use Rattle.code.specs.Code.{LegalWord, index}
+use Rattle.listing.specs.Every.{every-append}
+use Rattle.code.specs.Code.{LegalWord}
 use Rattle.cells.specs.CellLaws.{cells-below, cells-legal}
-use Rattle.catalogue.specs.LengthLaws.{lengthOf}
 use Rattle.streams.specs.Streams.{streamLength, wordsIn, stride, partRefusal, throughout}
 use Rattle.streams.specs.FitLaws.{rest-of}
 use Rattle.streams.specs.PartLaws.{throughout-none, throughout-last, throughout-step, rest-exact, else-place, part-place}
 use Rattle.read_stream.specs.Reading.{silentRefusal, readPartRefusal}
 use Rattle.read_stream.specs.LimitLaws.{Limits}
+use Rattle.read_stream.specs.SilentLaws.{silent-place}
 
 -- A part of a stream may be tested: the profile is in range, the limit is that of 15, and the part has whole words.
 pub record Testable (p : Profile) (limit part : List ℕ) : Type 0 where
@@ -60,21 +59,9 @@ unfolding readPartRefusal
 silence-decides p part e z f = leaves _ _ _ _ e z f
 
 -- A refusal from a word on lies in the word or its bridge.
-refused-if-place : (test : Bool) (number : ℕ) {most : ℕ} → refusedIf test number .place ≤ most
-refused-if-place true number = omega arith
-refused-if-place false number = omega arith
-
-silent-place : (a b c : Bool) {most : ℕ} → orElse (refusedIf a 14) (orElse (refusedIf b 15) (refusedIf c 16)) .place ≤ most
-silent-place a b c =
-    else-place (refusedIf a 14) _ (refused-if-place a 14) (else-place (refusedIf b 15) (refusedIf c 16) (refused-if-place b 15) (refused-if-place c 16))
-
 read-part-place : (p : Profile) (part : List ℕ) → readPartRefusal p part .place ≤ stride p
-unfolding readPartRefusal silentRefusal
-read-part-place p part =
-    let w = take (p .m) part in
-    let zeros = every (λ (c : ℕ). eqb c 0) w in
-    let above = ltb (2 ^ lengthOf p) (index (p .q) (p .x) w) in
-    else-place (partRefusal p part) (silentRefusal p w) (part-place p part) (silent-place zeros above (every (λ (c : ℕ). eqb c (p .q - 1)) w))
+unfolding readPartRefusal
+read-part-place p part = else-place (partRefusal p part) _ (part-place p part) (rw (silent-place p (take (p .m) part)) (omega arith))
 
 -- So its place in the stream fits.
 pub place-fits : {p : Profile} (part : List ℕ) {r : Reply} {place : ℕ} → InRange p → r ≡ readPartRefusal p part → place < 2 ^ 32 → r .place + place < 2 ^ 64

@@ -66,8 +66,9 @@ pub fn read(p: Profile, table: &[u64], cells: &[u8], out: &mut [u8]) -> Written
     }
     let used = limbs::limbs_used(table, 10 * p.m, 10);
     messages::put_messages(p, table, used, s, cells, out, 0);
+    let bits = streams::words_in(p, cells.len()) * s;
     Written {
         reply: replies::done(),
-        count: streams::words_in(p, cells.len()) * s,
+        count: bits,
     }
 }

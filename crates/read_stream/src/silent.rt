@@ -2,7 +2,7 @@
 // test it: words are ordered as their indices are, so the levels are compared with the word of 2^s.
 ghost use mathlib.Core.Path.{_≡_};
 ghost use mathlib.Core.List.{_++_};
-ghost use Prim.Native.Nat.{_^_, _≤_};
+ghost use Prim.Native.Nat.{_≤_};
 ghost use lib.Dec.{eqb};
 ghost use lib.ListN.{length, drop};
 ghost use Rattle.replies.specs.ReplyLaws.{InRange};

@@ -5,6 +5,7 @@ pub mod FitLaws
 pub mod UnfitLaws
 pub mod PartLaws
 pub mod BridgeLaws
+pub mod BesideLaws
 pub mod EachLaws
 pub mod LowestFirst
 pub mod AcceptedLaws

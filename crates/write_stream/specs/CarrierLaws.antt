@@ -21,6 +21,7 @@ use Rattle.catalogue.specs.LengthLaws.{wordsOf, lengthOf, length-below}
 use Rattle.catalogue.specs.Rating.{messageRefusal}
 use Rattle.bits.specs.Bits.{numberOf, bitsOfBytes, messagesIn}
 use Rattle.bits.specs.BitLaws.{drop-bits, numberOf-take-below, bitsOfBytes-bits}
+use Rattle.bits.specs.RoundTrip.{length-messagesIn}
 use Rattle.streams.specs.Streams.{patternsOf, streamLength}
 use Rattle.write_stream.specs.Writing.{carrier}
 use Rattle.write_stream.specs.Steps.{carriers, Ready}
@@ -49,11 +50,6 @@ messages-within s (suc n) bits =
 -- A message of s bits is below 2^s.
 pub number-below : (s at : ℕ) (bytes : List ℕ) → numberOf (take s (drop at (bitsOfBytes bytes))) < 2 ^ s
 number-below s at bytes = numberOf-take-below s _ (drop-bits at _ (bitsOfBytes-bits bytes))
-
-length-messages : (s n : ℕ) (bits : List ℕ) → length (messagesIn s n bits) ≡ n
-unfolding messagesIn
-length-messages s zero bits = refl
-length-messages s (suc n) bits = ap suc (length-messages s n (drop s bits))
 
 -- Messages of s bits are carried: s is from 1 to 639, the indices 1 to 2^s are those of words before that of all top, and N(m) fits ten limbs.
 pub record Carries (p : Profile) (s : ℕ) : Type 0 where
@@ -114,5 +110,5 @@ carriers-filled {p} {s} n bytes c some = filled-words (p .m) (carriers p s bytes
 -- .. and their stream is as long as that of n words.
 pub length-written : {p : Profile} {s : ℕ} (n : ℕ) (bytes : List ℕ) → Carries p s → length (streamOf (patternsOf p) (carriers p s bytes n)) ≡ streamLength p n
 length-written {p} {s} n bytes c =
-    let words : length (carriers p s bytes n) ≡ n = length-map (messagesIn s n (bitsOfBytes bytes)) (carrier p) ∙ length-messages s n (bitsOfBytes bytes) in
+    let words : length (carriers p s bytes n) ≡ n = length-map (messagesIn s n (bitsOfBytes bytes)) (carrier p) ∙ length-messagesIn s n (bitsOfBytes bytes) in
     rw words at (stream-length (patternsOf p) (p .m) (carriers p s bytes n) (carriers-long n 0 bytes c))

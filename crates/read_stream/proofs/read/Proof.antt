@@ -43,27 +43,26 @@ limbs-used-requires c κs = omega (arith, ready (c .before .before .before .befo
 put-messages-requires : tie.Need-put-messages-requires
 put-messages-requires c κs =
     let passed = c .before .before .before in
-    let lengths = passed .before .before .before in
-    (
+    let lengths = passed .before .before .before in (
       record { ready = ready (lengths .before); limbs = c .before .limbs-used .ensures; bits = lengths .message-length .ensures },
       stream passed .readable,
       stream passed .room,
     )
 
-done-requires : tie.Need-done-requires
-done-requires c κs = search needs
-
 words-in-requires : tie.Need-words-in-requires
 words-in-requires c κs =
-    let passed = c .before .before .before .before .before .before .before in
+    let passed = c .before .before .before .before .before .before in
     let range = ready (passed .before .before .before .before) .inRange in
     (range, omega (arith, few-cells _ _ range (stream passed .fits)))
 
-mul-t16 : tie.Need-mul-t16
-mul-t16 c =
-    let passed = c .before .before .before .before .before .before .before .before in
+mul-bits : tie.Need-mul-bits
+mul-bits c =
+    let passed = c .before .before .before .before .before .before .before in
     let lengths = passed .before .before .before in
     omega (arith, bits-few (ready (lengths .before)) (stream passed .fits) (c .words-in .ensures) (lengths .message-length .ensures))
+
+done-requires : tie.Need-done-requires
+done-requires c κs = search needs
 
 same-length : tie.Need-same-length
 same-length c = search needs
@@ -74,9 +73,9 @@ returns-3 c =
     let passed = put .before .before .before .before in
     let refusal = passed .before .before in
     let tested = refusal .before .before in
-    rw (c .before .done .ensures)
+    rw (c .done .ensures)
     (reading-done _ _ _ _ (tested .before .before .refused-carrying .ensures) (tested .if1 .left) (refusal .refused-stream .ensures) (passed .if2 .left)
-    (rw (c .words-in .ensures, refusal .before .message-length .ensures)) (put .put-messages .ensures))
+    (rw (c .before .words-in .ensures, refusal .before .message-length .ensures)) (put .put-messages .ensures))
 
 pub read-spec : {M : Type 1} → statement M
 read-spec =
@@ -90,8 +89,8 @@ read-spec =
     mul-limbs-used
     limbs-used-requires
     put-messages-requires
-    done-requires
     words-in-requires
-    mul-t16
+    mul-bits
+    done-requires
     same-length
     returns-3)

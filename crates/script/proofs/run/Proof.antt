@@ -1,6 +1,5 @@
 -- `script::run` ends: fewer cells are left to fill.
 use mathlib.Core.Path.{_≡_}
-use Prim.Native.Nat.{_-_}
 use lib.ListN.{length}
 use borrow.Author.Needs.{needs}
 use Rattle.script.proofs.run.Statement.{statement}

@@ -1,6 +1,6 @@
 -- `read_stream::messages::put_message` meets its contract.
-use mathlib.Core.Path.{_≡_}
 use native.Mathlib.Nat.{le-of-eq}
+use native.Mathlib.Omega.{arith}
 use borrow.Author.Needs.{needs}
 use Rattle.limbs.specs.Limbs.{allLimbs}
 use Rattle.read_stream.specs.OutputLaws.{few-bits, summable, index-held, message-held}
@@ -28,7 +28,7 @@ slice-aggregate-put-number c = search needs
 put-number-requires : tie.Need-put-number-requires
 put-number-requires c κs =
     let pre = c .before .before .before .before .before .before .before .before .before .before .pre in
-    (le-of-eq (slice-aggregate-put-number (c .before)), few-bits (pre .0), pre .2 .inside, pre .2 .small)
+    (le-of-eq (slice-aggregate-put-number (c .before)), omega (arith, few-bits (pre .0)), omega arith, omega arith)
 
 same-length : tie.Need-same-length
 same-length c = search needs

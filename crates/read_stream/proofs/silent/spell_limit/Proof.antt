@@ -2,7 +2,7 @@
 use native.Mathlib.Nat.{le-refl, zero-add}
 use lib.ListN.{length-set}
 use borrow.Author.Needs.{needs}
-use Rattle.read_stream.specs.LimitLaws.{bit-inside, limit-below, limit-spelt}
+use Rattle.read_stream.specs.LimitLaws.{limb-of-limit, limit-below, limit-spelt}
 use Rattle.read_stream.proofs.silent.spell_limit.Statement.{statement}
 use Rattle.read_stream.proofs.silent.spell_limit.Tie as tie
 
@@ -13,7 +13,7 @@ mul-rest : tie.Need-mul-rest
 mul-rest c = search needs
 
 array-write-rest : tie.Need-array-write-rest
-array-write-rest c = let pre = c .before .before .pre in bit-inside (pre .0) (pre .1)
+array-write-rest c = let pre = c .before .before .pre in limb-of-limit (pre .0) (pre .1)
 
 slice-aggregate-spell : tie.Need-slice-aggregate-spell
 slice-aggregate-spell c = search needs
