@@ -7,6 +7,7 @@ use native.Mathlib.Nat.{pos-of-ne-zero}
 use native.Mathlib.Omega.{arith}
 use lib.Dec.{eqb}
 use lib.ListN.{length, take, drop}
+use lib.Seq.{take-all}
 use Rattle.replies.specs.declared.Profile.{Profile}
 use Rattle.replies.specs.ReplyLaws.{InRange, both-done, test-failed}
 use Rattle.replies.specs.LowestLaws.{lowest-done, moved-done}
@@ -56,6 +57,10 @@ module _ {p : Profile} (part : List ℕ) (range : InRange p) (r : Readable p par
   first-carries some =
       let passed = first-passed p part (wordsIn p (length part)) (r .place) (r .exact) some (r .passed) in
       passed-carries part range (word-inside p (length part) (r .exact) some) passed
+
+  -- .. which is the whole part where it is the last, ..
+  pub last-carries : 0 < length part → length part ≤ p .m → Carrier p part
+  last-carries some last = rw (take-all (p .m) part last) at (first-carries some)
 
   -- .. and the part behind the word and its bridge is such a part.
   pub rest-readable : p .m < length part → Readable p (drop (stride p) part)

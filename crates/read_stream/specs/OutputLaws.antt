@@ -5,6 +5,7 @@ use Prim.Native.Nat.{ℕ, zero, suc, _+_, _-_, _*_, _^_, _≤_, _<_}
 use native.Mathlib.Nat.{lt-trans, lt-of-le-of-lt, le-of-lt, le-of-eq, sub-le, suc-mul}
 use native.Mathlib.Omega.{arith}
 use lib.ListN.{length, take, drop, length-drop}
+use lib.Seq.{take-all}
 use Rattle.limbs.specs.Limbs.{base, value, limbsOf, numberAt, allLimbs}
 use Rattle.limbs.specs.ValueLaws.{length-limbsOf, value-limbsOf-below}
 use Rattle.limbs.specs.HoldingLaws.{numberAt-all}
@@ -112,8 +113,9 @@ module _ {p : Profile} {table : List ℕ} {used s : ℕ} (found : Found p table 
 
   -- .. the bits of the last word, ..
   pub put-last : {after : List ℕ} → 0 < length part → length part ≤ p .m
-      → after ≡ withBits at (bitsOf s (messageOf (index (p .q) (p .x) (take (p .m) part)))) out → after ≡ withBits at (bitsRead p part) out
-  put-last some last e = rw (bits-last p part (last-word p (length part) range (r .exact) some last .0), ← (found .bits)) e
+      → after ≡ withBits at (bitsOf s (messageOf (index (p .q) (p .x) part))) out → after ≡ withBits at (bitsRead p part) out
+  put-last some last e =
+      rw (bits-last p part (last-word p (length part) range (r .exact) some last .0), take-all (p .m) part last, ← (found .bits)) e
 
   -- .. or those of a word and of the part behind it.
   pub put-more : {first after : List ℕ} → p .m < length part → Room (bitsIn p (length part)) at out

@@ -33,7 +33,7 @@ fn put_message(
 }
 
 // Writes the bits of the messages of a part's words: the cells after a word and its bridge are handed
-// on as the part that starts m + x cells in.
+// on as the part that starts m + x cells in. The limbs of a word stand in no frame of this recursion.
 pub fn put_messages(
     p: Profile,
     table: &[u64],
@@ -46,14 +46,15 @@ pub fn put_messages(
     requires { ⌜ Found p (now table) used s × Readable p (now part) × Room (bitsIn p (length (now part))) at (now out) ⌝ }
     ensures { λ _. ⌜ now (out .exit) ≡ withBits at (bitsRead p (now (part .entry))) (now (out .entry)) ⌝ }
 {
-    let m = p.m;
     if part.len() == 0 {
         return;
     }
-    put_message(p, table, used, s, &part[..m], out, at);
+    let m = p.m;
     if part.len() <= m {
+        put_message(p, table, used, s, part, out, at);
         return;
     }
+    put_message(p, table, used, s, &part[..m], out, at);
     let next = m + p.x;
     put_messages(p, table, used, s, &part[next..], out, at + s);
 }

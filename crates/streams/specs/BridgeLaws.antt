@@ -21,6 +21,14 @@ use Rattle.streams.specs.Streams.{patternsOf, stride, bridgeIn, rightBri
 abbrev pub bridgeLevel : Profile → ℕ → ℕ → ℕ
 bridgeLevel p before after = cond (eqb before (p .q - 1) && eqb after (p .q - 1)) (p .q - 1) 0
 
+-- It is top between two tops, and 0 else.
+module _ (p : Profile) (before after : ℕ) where
+  pub top-between : (eqb before (p .q - 1) && eqb after (p .q - 1)) ≡ true → p .q - 1 ≡ bridgeLevel p before after
+  top-between e = rw e
+
+  pub zero-else : (eqb before (p .q - 1) && eqb after (p .q - 1)) ≡ false → 0 ≡ bridgeLevel p before after
+  zero-else e = rw e
+
 -- A bridge is x cells of its level.
 bridge-levels : (p : Profile) (before after : ℕ) → bridge (patternsOf p) before after ≡ replicate (p .x) (bridgeLevel p before after)
 unfolding bridge

@@ -11,8 +11,7 @@ use borrow.Fn.PlainCycle.{Measures, is, falls, and}
 use Rattle.streams.specs.Streams.{stride}
 use Rattle.streams.specs.FitLaws.{rest-of}
 use Rattle.streams.specs.PartLaws.{handed-on}
-use Rattle.read_stream.specs.TestLaws.{word-inside}
-use Rattle.read_stream.specs.CarrierLaws.{first-carries, rest-readable}
+use Rattle.read_stream.specs.CarrierLaws.{first-carries, last-carries, rest-readable}
 use Rattle.read_stream.specs.OutputLaws.{Room, room-first, room-rest, put-none, put-last, put-more}
 use Rattle.read_stream.proofs.messages.put_messages.Reads as put-messages
 use Rattle.read_stream.proofs.messages.put_messages.Kinds as put-messages-kinds
@@ -57,84 +56,89 @@ room t c = let pre = c .before .before .before .before .pre .1 in room-first (pr
 
 -- .. and behind it stand a bridge and more words.
 within : (t : ℕ) (c : put-messages-lts.Else2 (called t) (put-messages-at t) put-messages.Post)
-    → let a = c .before .before .before .before .before .before .before .before .before .before .args in stride (a .p) < length (a .part .now)
+    → let a = c .before .before .before .before .before .args in stride (a .p) < length (a .part .now)
 within t c =
-    let pre = c .before .before .before .before .before .before .before .before .before .before .pre .1 in
+    let pre = c .before .before .before .before .before .pre .1 in
     rest-of _ _ (pre .0 .ready .inRange) (pre .1 .exact) (c .if2 .left) .within
 
 put-messages-returns : (t : ℕ) → put-messages-lts.Need-returns (called t) (put-messages-at t) put-messages.Post
 put-messages-returns t c =
     let pre = c .before .before .before .before .pre .1 in put-none (pre .0) _ (pre .1) _ _ (c .if1 .taken)
 
-put-messages-slice-aggregate-put-message :
-    (t : ℕ) → put-messages-lts.Need-slice-aggregate-put-message (called t) (put-messages-at t) put-messages.Post
-put-messages-slice-aggregate-put-message t c =
-    let pre = c .before .before .before .before .before .pre .1 in
-    sym (length-take-le _ _ (word-inside _ _ (pre .1 .exact) (some t (c .before))))
-
 put-messages-put-message-requires : (t : ℕ) → put-messages-lts.Need-put-message-requires (called t) (put-messages-at t) put-messages.Post
 put-messages-put-message-requires t c κs =
     let tested = c .before .before in
     let pre = tested .before .before .before .before .pre .1 in
-    (pre .0, first-carries _ (pre .0 .ready .inRange) (pre .1) (some t tested), room t tested)
+    (pre .0, last-carries _ (pre .0 .ready .inRange) (pre .1) (some t tested) (c .before .if2 .taken), room t tested)
 
 put-messages-same-length : (t : ℕ) → put-messages-lts.Need-same-length (called t) (put-messages-at t) put-messages.Post
-put-messages-same-length t c = c .before .before .before .put-message .kept .1 .1 .1 .1 .1 .0
+put-messages-same-length t c = c .before .before .put-message .kept .1 .1 .1 .1 .1 .0
 
 put-messages-returns-2 : (t : ℕ) → put-messages-lts.Need-returns-2 (called t) (put-messages-at t) put-messages.Post
 put-messages-returns-2 t c =
-    let put = c .before .before .before in
-    let tested = put .before .before .before in
+    let put = c .before .before in
+    let last = put .before .before in
+    let pre = last .before .before .before .before .before .pre .1 in
+    put-last (pre .0) _ (pre .1) _ _ (some t (last .before)) (last .if2 .taken) (put .put-message .ensures)
+
+put-messages-slice-aggregate-put-message :
+    (t : ℕ) → put-messages-lts.Need-slice-aggregate-put-message (called t) (put-messages-at t) put-messages.Post
+put-messages-slice-aggregate-put-message t c = sym (length-take-le _ _ (le-of-lt (c .before .if2 .left)))
+
+put-messages-put-message-requires-2 : (t : ℕ) → put-messages-lts.Need-put-message-requires-2 (called t) (put-messages-at t) put-messages.Post
+put-messages-put-message-requires-2 t c κs =
+    let tested = c .before .before .before in
     let pre = tested .before .before .before .before .pre .1 in
-    put-last (pre .0) _ (pre .1) _ _ (some t tested) (c .if2 .taken) (put .put-message .ensures)
+    (pre .0, first-carries _ (pre .0 .ready .inRange) (pre .1) (some t tested), room t tested)
 
 put-messages-add-next : (t : ℕ) → put-messages-lts.Need-add-next (called t) (put-messages-at t) put-messages.Post
 put-messages-add-next t c = search needs
 
 put-messages-sub-put-messages : (t : ℕ) → put-messages-lts.Need-sub-put-messages (called t) (put-messages-at t) put-messages.Post
-put-messages-sub-put-messages t c = le-of-lt (within t (c .before))
+put-messages-sub-put-messages t c = le-of-lt (within t (c .before .before .before .before .before .before))
 
 put-messages-part-put-messages-start : (t : ℕ) → put-messages-lts.Need-part-put-messages-start (called t) (put-messages-at t) put-messages.Post
-put-messages-part-put-messages-start t c = le-of-lt (within t (c .before))
+put-messages-part-put-messages-start t c = le-of-lt (within t (c .before .before .before .before .before .before))
 
 put-messages-part-put-messages-end : (t : ℕ) → put-messages-lts.Need-part-put-messages-end (called t) (put-messages-at t) put-messages.Post
 put-messages-part-put-messages-end t c = search needs
 
 put-messages-add-put-messages : (t : ℕ) → put-messages-lts.Need-add-put-messages (called t) (put-messages-at t) put-messages.Post
 put-messages-add-put-messages t c =
-    let put = c .before .before .before .before .before .before in omega (arith, room t (put .before .before .before) .small)
+    let put = c .before .before .before .before .before in omega (arith, room t (put .before .before .before .before) .small)
 
 put-messages-put-messages-requires : (t : ℕ) → put-messages-lts.Need-put-messages-requires (called t) (put-messages-at t) put-messages.Post
 put-messages-put-messages-requires t c κs =
-    let more = c .before .before .before in
-    let put = more .before .before .before in
-    let pre = put .before .before .before .before .before .before .before .pre .1 in
-    let kept = put .put-message .kept .1 .1 .1 .1 .1 .0 in
+    let put = c .before .before .before .before .before in
+    let more = put .before .before .before in
+    let pre = more .before .before .before .before .before .pre .1 in
+    let kept = put .put-message2 .kept .1 .1 .1 .1 .1 .0 in
     let readable = rest-readable _ (pre .0 .ready .inRange) (pre .1) (more .if2 .left) in
     rw handed-on (rw length-drop (omega (arith, within t more)), (pre .0, readable, room-rest (pre .0) _ (pre .1) _ _ (more .if2 .left) kept (pre .2)))
 
 put-messages-same-length-2 : (t : ℕ) → put-messages-lts.Need-same-length-2 (called t) (put-messages-at t) put-messages.Post
 put-messages-same-length-2 t c =
-    let more = c .before .before in
-    more .put-messages .kept .1 .1 .1 .1 .1 .0 ∙ more .before .before .before .before .before .before .before .put-message .kept .1 .1 .1 .1 .1 .0
+    let further = c .before .before in
+    further .put-messages .kept .1 .1 .1 .1 .1 .0 ∙ further .before .before .before .before .before .before .put-message2 .kept .1 .1 .1 .1 .1 .0
 
 put-messages-returns-3 : (t : ℕ) → put-messages-lts.Need-returns-3 (called t) (put-messages-at t) put-messages.Post
 put-messages-returns-3 t c =
     let further = c .before .before in
-    let more = further .before .before .before .before in
-    let put = more .before .before .before in
-    let pre = put .before .before .before .before .before .before .before .pre .1 in
-    put-more (pre .0) _ (pre .1) _ _ (more .if2 .left) (pre .2) (put .put-message .ensures) (rw handed-on at (further .put-messages .ensures))
+    let put = further .before .before .before .before .before .before in
+    let more = put .before .before .before in
+    let pre = more .before .before .before .before .before .pre .1 in
+    put-more (pre .0) _ (pre .1) _ _ (more .if2 .left) (pre .2) (put .put-message2 .ensures) (rw handed-on at (further .put-messages .ensures))
 
 pub +put-messages-spec : {M : Type 1} → statement M
 +put-messages-spec = close μ-put-messages λ t. put-messages-lts.spec (called t)
     (put-messages-at t)
     put-messages.Post
     (put-messages-returns t)
-    (put-messages-slice-aggregate-put-message t)
     (put-messages-put-message-requires t)
     (put-messages-same-length t)
     (put-messages-returns-2 t)
+    (put-messages-slice-aggregate-put-message t)
+    (put-messages-put-message-requires-2 t)
     (put-messages-add-next t)
     (put-messages-sub-put-messages t)
     (put-messages-part-put-messages-start t)
