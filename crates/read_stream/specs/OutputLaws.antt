@@ -64,6 +64,11 @@ module _ {p : Profile} {table : List ℕ} {used s : ℕ} (found : Found p table 
     message-held e f =
         rw (f, index-held e) (ten-hold (lt-of-le-of-lt (sub-le (index (p .q) (p .x) word) 1) index-small))
 
+-- So its bits are those that are written.
+pub message-put : {number message : ℕ} (s at : ℕ) (before : List ℕ) {after : List ℕ} → number ≡ message
+    → after ≡ withBits at (bitsOf s number) before → after ≡ withBits at (bitsOf s message) before
+message-put s at before e a = rw (← e) a
+
 -- The bits of a part's words: none, those of the last word, or of a word and of the part behind it.
 abbrev bitsOfWord : Profile → List ℕ → List ℕ
 bitsOfWord p part = bitsOf (lengthOf p) (messageOf (index (p .q) (p .x) (take (p .m) part)))

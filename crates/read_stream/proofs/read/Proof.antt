@@ -1,4 +1,6 @@
 -- `read_stream::read` meets its contract.
+use mathlib.Core.Path.{ap₂}
+use Prim.Native.Nat.{ℕ, _*_}
 use native.Mathlib.Omega.{arith}
 use borrow.Author.Needs.{needs}
 use Rattle.catalogue.specs.LengthLaws.{CarriesMessages}
@@ -75,7 +77,7 @@ returns-3 c =
     let tested = refusal .before .before in
     rw (c .done .ensures)
     (reading-done _ _ _ _ (tested .before .before .refused-carrying .ensures) (tested .if1 .left) (refusal .refused-stream .ensures) (passed .if2 .left)
-    (rw (c .before .words-in .ensures, refusal .before .message-length .ensures)) (put .put-messages .ensures))
+    (ap₂ (λ (n s : ℕ). n * s) (c .before .words-in .ensures) (refusal .before .message-length .ensures)) (put .put-messages .ensures))
 
 pub read-spec : {M : Type 1} → statement M
 read-spec =

@@ -3,7 +3,7 @@ use native.Mathlib.Nat.{le-of-eq}
 use native.Mathlib.Omega.{arith}
 use borrow.Author.Needs.{needs}
 use Rattle.limbs.specs.Limbs.{allLimbs}
-use Rattle.read_stream.specs.OutputLaws.{few-bits, summable, index-held, message-held}
+use Rattle.read_stream.specs.OutputLaws.{few-bits, summable, index-held, message-held, message-put}
 use Rattle.read_stream.proofs.messages.put_message.Statement.{statement}
 use Rattle.read_stream.proofs.messages.put_message.Tie as tie
 
@@ -40,7 +40,7 @@ returns c =
     let added = given .before .before in
     let pre = added .before .before .before .before .before .pre in
     let number = message-held (pre .0) (table-limbs (added .before)) (pre .1) (added .add-index .ensures) (given .message .ensures) in
-    rw number at (put .put-number .ensures)
+    message-put _ _ _ number (put .put-number .ensures)
 
 pub put-message-spec : {M : Type 1} → statement M
 put-message-spec =
