@@ -14,7 +14,7 @@ use Rattle.patterns.specs.FreeLaws.{top-run-free, zero-run-free}
 use Rattle.patterns.specs.StreamLaws.{stream-free}
 use Rattle.listing.specs.Every.{every, every-reverse, every-replicate}
 use Rattle.listing.specs.Listing.{before}
-use Rattle.listing.specs.Order.{index-keeps-order, index-injective, index-below-count}
+use Rattle.listing.specs.Order.{index-keeps-order, index-injective, index-below-count, lower-index-before}
 use Rattle.listing.specs.Inverse.{exactly-one, index-has-word, word-keeps-order}
 use Rattle.listing.specs.Limits.{zeros-first, tops-last}
 use Rattle.code.specs.Code.{published, legal, LegalWord, N, index, word}
@@ -45,6 +45,10 @@ word-of-index-of-word q x m w r = index-has-word q (legal q x) m w r
 pub index-in-order : (q x m : ℕ) (v w : List ℕ) → LegalWord q x m v → LegalWord q x m w → before v w ≡ true → index q x v < index q x w
 unfolding index
 index-in-order q x m v w = index-keeps-order q (legal q x) m v w
+
+pub lower-index-first : (q x m : ℕ) (v w : List ℕ) → LegalWord q x m v → LegalWord q x m w → index q x v < index q x w → before v w ≡ true
+unfolding index
+lower-index-first q x m v w = lower-index-before q (legal q x) m v w
 
 pub word-in-order : (q x m i j : ℕ) → i < j → j < N q x m → before (word q x m i) (word q x m j) ≡ true
 unfolding N word

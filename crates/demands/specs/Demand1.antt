@@ -8,7 +8,7 @@ use native.Mathlib.Omega.{arith}
 use borrow.Author.Tests.{ne-eqb}
 use Rattle.replies.specs.declared.Reply.{Reply}
 use Rattle.replies.specs.declared.Profile.{Profile}
-use Rattle.replies.specs.Replies.{done, refused, orElse, Outcome, writingCounted}
+use Rattle.replies.specs.Replies.{done, refused, orElse, writingCounted}
 use Rattle.replies.specs.ReplyLaws.{Between, InRange, range-not-refused}
 use Rattle.tables.specs.Tables.{tableOf, tableRefusal}
 use Rattle.tables.specs.OtherReach.{longer-reach-refused, shorter-reach-refused}
@@ -19,10 +19,7 @@ use Rattle.streams.specs.FitLaws.{words-of-length, not-refused-fits, not-refuse
 use Rattle.write_stream.specs.Writing.{writeRefusal, writingStream}
 use Rattle.read_stream.specs.Reading.{readRefusal, readingStream}
 use Rattle.join_streams.specs.Joining.{joinRefusal, joiningStreams, turnRefusal, turningStream}
-
--- The outcome of a refusal: nothing is counted, and the lent list is as it was.
-abbrev pub nothing : Reply → List ℕ → Outcome
-nothing reply lent = record { answer = record { reply = reply; count = 0 }; lent = lent }
+use Rattle.demands.specs.Outcomes.{nothing}
 
 nothing-written : (refusal : Reply) (count : ℕ) (content lent : List ℕ) → (refusal .number ≡ 0 → ⊥) → writingCounted refusal count content lent ≡ nothing refusal lent
 unfolding writingCounted

@@ -1,10 +1,11 @@
--- What a call that is done wrote and left, as its outcome shows it; and which words carry a message.
+-- The words in which the demands speak: what a refusal leaves, what a call that is done wrote and left, and which words carry a message.
 use mathlib.Core.Path.{_≡_}
 use mathlib.Core.Bool.{Bool, true}
 use mathlib.Core.List.{List, _++_}
 use Prim.Native.Nat.{ℕ, _*_, _≤_}
 use lib.ListN.{length, take, drop}
 use Rattle.replies.specs.declared.Profile.{Profile}
+use Rattle.replies.specs.declared.Reply.{Reply}
 use Rattle.replies.specs.Replies.{done, isDone, Outcome}
 use Rattle.numbers.specs.Step.{messageOf}
 use Rattle.code.specs.Code.{legal, index}
@@ -16,6 +17,10 @@ use Rattle.read_stream.specs.Reading.{silentRefusal}
 -- A call is done: its reply is number 0.
 abbrev pub Done : Outcome → Type 0
 Done outcome = outcome .answer .reply .number ≡ 0
+
+-- Refused: nothing is counted, and the lent list is as it was.
+abbrev pub nothing : Reply → List ℕ → Outcome
+nothing reply lent = record { answer = record { reply = reply; count = 0 }; lent = lent }
 
 -- Done: so much is counted, the content stands in the lent list from the front, and behind it the list is as it was.
 abbrev pub doneWith : ℕ → List ℕ → List ℕ → Outcome

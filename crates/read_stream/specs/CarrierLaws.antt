@@ -17,8 +17,9 @@ use Rattle.code.specs.Code.{LegalWord, index}
 use Rattle.code.specs.Laws.{zeros-only}
 use Rattle.streams.specs.Streams.{streamLength, wordsIn, stride, throughout}
 use Rattle.streams.specs.PartLaws.{throughout-step, rest-exact}
+use Rattle.streams.specs.AcceptedLaws.{part-word}
 use Rattle.read_stream.specs.Reading.{silentRefusal, readPartRefusal}
-use Rattle.read_stream.specs.TestLaws.{word-inside, word-legal, readRefusalFrom}
+use Rattle.read_stream.specs.TestLaws.{word-inside, readRefusalFrom}
 
 -- A word that carries a message.
 pub record Carrier (p : Profile) (w : List ℕ) : Type 0 where
@@ -35,7 +36,7 @@ pub passed-carries : {p : Profile} (part : List ℕ) → InRange p → p .m ≤ 
 unfolding readPartRefusal silentRefusal
 passed-carries {p} part range inside none =
     let both = both-done _ _ none in
-    let word = word-legal p part inside refl (both .first) in
+    let word = part-word p part inside refl (both .first) in
     let other = test-failed _ 13 (both-done _ _ (both .second) .first) in
     record { word = word; first = not-zeros (p .q) (p .x) (p .m) _ (range .levels .least) word other }
 

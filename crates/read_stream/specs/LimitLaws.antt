@@ -12,9 +12,8 @@ use borrow.Author.Tests.{ltb-true, ltb-false}
 use Rattle.limbs.specs.Limbs.{numberAt}
 use Rattle.replies.specs.declared.Profile.{Profile}
 use Rattle.listing.specs.Listing.{before}
-use Rattle.listing.specs.Order.{lower-index-before}
-use Rattle.code.specs.Code.{LegalWord, N, legal, index, word}
-use Rattle.code.specs.Laws.{OneWord, one-word-of-index, index-in-order}
+use Rattle.code.specs.Code.{LegalWord, N, index, word}
+use Rattle.code.specs.Laws.{OneWord, one-word-of-index, index-in-order, lower-index-first}
 use Rattle.code.specs.MessageLaws.{carrying-before-tops}
 use Rattle.catalogue.specs.LengthLaws.{wordsOf, lengthOf, words-carry, length-below, CarriesMessages}
 use Rattle.read_stream.specs.PowerLimbs.{powerLimbs, bit-inside, power-held}
@@ -55,10 +54,6 @@ module _ {p : Profile} {table : List ℕ} {s : ℕ} (ready : CarriesMessages p t
   unfolding limitOf
   limit-spelt lent e = rw (held, zero-add) at e
 
-lower-before : (q x m : ℕ) (v w : List ℕ) → LegalWord q x m v → LegalWord q x m w → index q x v < index q x w → before v w ≡ true
-unfolding index
-lower-before q x m v w = lower-index-before q (legal q x) m v w
-
 -- The word of an index stands before a legal word exactly if the index is below that word's.
 pub index-above : (q x m i : ℕ) (w : List ℕ) → i < N q x m → LegalWord q x m w → before (word q x m i) w ≡ ltb i (index q x w)
 index-above q x m i w l r = go (before (word q x m i) w) refl (ltb i (index q x w)) refl
@@ -71,7 +66,7 @@ index-above q x m i w l r = go (before (word q x m i) w) refl (ltb i (index q x 
     go false e false f = refl
     go true e false f =
         let lower = index-in-order q x m (word q x m i) w (one .found) r e in absurd (omega (arith, one .its-index, ltb-false i (index q x w) f))
-    go false e true f = sym e ∙ lower-before q x m (word q x m i) w (one .found) r (rw (one .its-index) (ltb-true _ _ f))
+    go false e true f = sym e ∙ lower-index-first q x m (word q x m i) w (one .found) r (rw (one .its-index) (ltb-true _ _ f))
 
 -- So comparing it with a legal word tells whether 15 applies.
 pub limit-tells : {p : Profile} {limit : List ℕ} (w : List ℕ) → Limits p limit → LegalWord (p .q) (p .x) (p .m) w

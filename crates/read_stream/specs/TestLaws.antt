@@ -1,19 +1,14 @@
 -- Laws of the tests that reading makes: what a word that passes them is, and how far in a refusal lies.
 use mathlib.Core.Path.{_≡_, sym, _∙_}
-use mathlib.Core.Bool.{and-eq-true-iff}
 use mathlib.Core.List.{List}
 use Prim.Native.Nat.{ℕ, zero, suc, _+_, _^_, _≤_, _<_}
 use native.Mathlib.Nat.{suc-mul}
 use native.Mathlib.Omega.{arith}
 use lib.ListN.{length, take, drop}
-use lib.Seq.{take-add, length-take-le}
 use Rattle.replies.specs.declared.Reply.{Reply}
 use Rattle.replies.specs.declared.Profile.{Profile}
 use Rattle.replies.specs.Replies.{done, movedBy, lowest}
-use Rattle.replies.specs.ReplyLaws.{InRange, both-done, decides, leaves}
-use Rattle.listing.specs.Every.{every-append}
-use Rattle.code.specs.Code.{LegalWord}
-use Rattle.cells.specs.CellLaws.{cells-below, cells-legal}
+use Rattle.replies.specs.ReplyLaws.{InRange, decides, leaves}
 use Rattle.streams.specs.Streams.{streamLength, wordsIn, stride, partRefusal, throughout}
 use Rattle.streams.specs.FitLaws.{rest-of}
 use Rattle.streams.specs.PartLaws.{throughout-none, throughout-last, throughout-step, rest-exact, else-place, part-place}
@@ -34,19 +29,6 @@ word-inside p cells exact some = go (wordsIn p cells) exact
     go : (n : ℕ) → cells ≡ streamLength p n → p .m ≤ cells
     go zero e = absurd (omega arith)
     go (suc n) e = omega (arith, suc-mul n (p .m))
-
--- A word that 10 and 11 let through is legal.
-pub word-legal : (p : Profile) (part : List ℕ) {r : Reply} → p .m ≤ length part → r ≡ partRefusal p part → r .number ≡ 0
-    → LegalWord (p .q) (p .x) (p .m) (take (p .m) part)
-unfolding partRefusal
-word-legal p part inside e none =
-    let cells = both-done _ _ (rw e at none) in
-    let below = rw (take-add, every-append) at (cells-below (p .q) (take (stride p) part) (cells .first)) in
-    record {
-      cells = length-take-le (p .m) part inside;
-      levelled = and-eq-true-iff _ _ .0 below .0;
-      passes = cells-legal (p .q) (p .x) _ (both-done _ _ (cells .second) .first);
-    }
 
 -- The first test of a word that refuses decides.
 pub cells-decide : (p : Profile) (part : List ℕ) {r : Reply} → r ≡ partRefusal p part → (r .number ≡ 0 → ⊥) → r ≡ readPartRefusal p part

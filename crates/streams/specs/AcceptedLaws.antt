@@ -8,6 +8,7 @@ use lib.Dec.{ltb, eqb}
 use lib.ListN.{length, take, drop, getD, replicate, take-append-drop, length-take, length-drop, length-replicate}
 use lib.Seq.{take-all, length-take-le, take-at, drop-at, drop-drop, take-add, ext-getD}
 use borrow.Author.Tests.{lt-ltb, eqb-true, eq-eqb, not-false}
+use Rattle.replies.specs.declared.Reply.{Reply}
 use Rattle.replies.specs.declared.Profile.{Profile}
 use Rattle.replies.specs.Replies.{done, orElse}
 use Rattle.replies.specs.ReplyLaws.{InRange, both-done, none-refused, holds-nowhere}
@@ -94,6 +95,11 @@ word-legal p w h =
     let first = and-eq-true-iff (hasLength (p .m) w) (allBelow (p .q) w && legal (p .q) (p .x) w) .0 h in
     let second = and-eq-true-iff (allBelow (p .q) w) (legal (p .q) (p .x) w) .0 (first .1) in
     record { cells = eqb-true (length w) (p .m) (first .0); levelled = second .0; passes = second .1 }
+
+-- A word that 10 and 11 let through is one.
+pub part-word : (p : Profile) (part : List ℕ) {r : Reply} → p .m ≤ length part → r ≡ partRefusal p part → r .number ≡ 0
+    → LegalWord (p .q) (p .x) (p .m) (take (p .m) part)
+part-word p part inside e none = word-legal p (take (p .m) part) (right-word p part inside (part-right p part (rw e at none)))
 
 bridge-below : (p : Profile) (before after : ℕ) → InRange p → allBelow (p .q) (bridge (patternsOf p) before after) ≡ true
 unfolding bridge

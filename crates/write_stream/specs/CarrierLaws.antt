@@ -16,8 +16,7 @@ use Rattle.patterns.specs.StreamLaws.{stream-length}
 use Rattle.listing.specs.Every.{every}
 use Rattle.code.specs.Laws.{one-word-of-index}
 use Rattle.code.specs.MessageLaws.{length-positive, carrying-before-tops}
-use Rattle.code.specs.Sizes.{count-fits}
-use Rattle.catalogue.specs.LengthLaws.{wordsOf, lengthOf, length-below}
+use Rattle.catalogue.specs.LengthLaws.{wordsOf, lengthOf, words-fit, length-below}
 use Rattle.catalogue.specs.Rating.{messageRefusal}
 use Rattle.bits.specs.Bits.{numberOf, bitsOfBytes, messagesIn}
 use Rattle.bits.specs.BitLaws.{drop-bits, numberOf-take-below, bitsOfBytes-bits}
@@ -72,7 +71,7 @@ carries {p} ready =
       some = some;
       most = length-below range (ready .carrying .carries);
       within = carrying-before-tops (p .q) (p .x) (p .m) (omega arith);
-      fits = count-fits (p .q) (p .x) (p .m) (range .levels .least) (range .levels .most) (range .length .most) (range .reach .least);
+      fits = words-fit range;
     })
 
 -- The index of a message of s bits is that of a word.

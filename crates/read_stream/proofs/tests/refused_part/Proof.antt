@@ -2,7 +2,8 @@
 use mathlib.Core.Path.{sym}
 use lib.Seq.{length-take-le}
 use borrow.Author.Needs.{needs}
-use Rattle.read_stream.specs.TestLaws.{word-inside, word-legal, cells-decide, silence-decides}
+use Rattle.streams.specs.AcceptedLaws.{part-word}
+use Rattle.read_stream.specs.TestLaws.{word-inside, cells-decide, silence-decides}
 use Rattle.read_stream.proofs.tests.refused_part.Statement.{statement}
 use Rattle.read_stream.proofs.tests.refused_part.Tie as tie
 
@@ -22,7 +23,7 @@ refused-silent-requires c κs =
     let tested = c .before in
     let pre = tested .before .before .before .before .before .pre in
     let inside = word-inside _ _ (pre .0 .exact) (pre .1) in
-    (pre .0 .range, pre .0 .limits, word-legal _ _ inside (tested .before .before .refused-part .ensures) (tested .if1 .left))
+    (pre .0 .range, pre .0 .limits, part-word _ _ inside (tested .before .before .refused-part .ensures) (tested .if1 .left))
 
 returns-2 : tie.Need-returns-2
 returns-2 c =
