@@ -27,7 +27,8 @@ length-turned-words words = rw (length-reverse (map reverse words), length-map w
 pub turned-words-append : (u v : List (List ℕ)) → turnedWords (u ++ v) ≡ turnedWords v ++ turnedWords u
 turned-words-append u v = rw (map-append reverse u v) (reverse-append (map reverse u) (map reverse v))
 
-filled-by-length : (w : List ℕ) → 0 < length w → filled w ≡ true
+-- A word of some cells has a first one.
+pub filled-by-length : (w : List ℕ) → 0 < length w → filled w ≡ true
 filled-by-length [] some = absurd (omega arith)
 filled-by-length (c ∷ w) some = refl
 

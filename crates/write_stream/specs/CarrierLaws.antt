@@ -1,6 +1,6 @@
 -- Laws of the messages in bits, of the words that carry them, and of the length of their stream.
 use mathlib.Core.Path.{_≡_, refl, ap, _∙_}
-use mathlib.Core.Bool.{true, and-eq-true-iff}
+use mathlib.Core.Bool.{true}
 use mathlib.Core.List.{List, [], _∷_, _++_, map}
 use Prim.Native.Nat.{ℕ, zero, suc, _+_, _-_, _*_, _^_, _<_}
 use native.Mathlib.Nat.{zero-add, zero-mul, suc-add, suc-mul, pos-of-ne-zero}
@@ -13,7 +13,7 @@ use Rattle.numbers.specs.Step.{indexOf}
 use Rattle.replies.specs.declared.Profile.{Profile}
 use Rattle.patterns.specs.Stream.{filled, hasLength, streamOf}
 use Rattle.patterns.specs.StreamLaws.{stream-length}
-use Rattle.listing.specs.Every.{every}
+use Rattle.listing.specs.Every.{every, every-implies}
 use Rattle.code.specs.Laws.{one-word-of-index}
 use Rattle.code.specs.MessageLaws.{length-positive, carrying-before-tops}
 use Rattle.catalogue.specs.LengthLaws.{wordsOf, lengthOf, words-fit, length-below}
@@ -22,6 +22,7 @@ use Rattle.bits.specs.Bits.{numberOf, bitsOfBytes, messagesIn}
 use Rattle.bits.specs.BitLaws.{drop-bits, numberOf-take-below, bitsOfBytes-bits}
 use Rattle.bits.specs.RoundTrip.{length-messagesIn}
 use Rattle.streams.specs.Streams.{patternsOf, streamLength}
+use Rattle.streams.specs.JoinedLaws.{filled-by-length}
 use Rattle.write_stream.specs.Writing.{carrier}
 use Rattle.write_stream.specs.Steps.{carriers, Ready}
 
@@ -91,20 +92,11 @@ carriers-long {p} {s} (suc n) at bytes c =
     let others = rw (← (drop-drop s at (bitsOfBytes bytes))) at (carriers-long n (at + s) bytes c) in
     rw (eq-eqb _ _ first, others)
 
--- Words of m cells have cells.
-filled-words : (m : ℕ) (words : List (List ℕ)) → 0 < m → every (hasLength m) words ≡ true → every filled words ≡ true
-filled-words m [] some h = refl
-filled-words m (w ∷ words) some h =
-    let p = and-eq-true-iff (hasLength m w) (every (hasLength m) words) .0 h in
-    rw (cell-first w (eqb-true (length w) m (p .0)), filled-words m words some (p .1))
-  where
-    cell-first : (w : List ℕ) → length w ≡ m → filled w ≡ true
-    cell-first [] e = absurd (omega arith)
-    cell-first (c ∷ w) e = refl
-
 -- The words that carry the first n messages have cells, ..
 pub carriers-filled : {p : Profile} {s : ℕ} (n : ℕ) (bytes : List ℕ) → Carries p s → 0 < p .m → every filled (carriers p s bytes n) ≡ true
-carriers-filled {p} {s} n bytes c some = filled-words (p .m) (carriers p s bytes n) some (carriers-long n 0 bytes c)
+carriers-filled {p} {s} n bytes c some =
+    every-implies (hasLength (p .m)) filled (λ w h. filled-by-length w (omega (arith, eqb-true (length w) (p .m) h))) (carriers p s bytes n)
+    (carriers-long n 0 bytes c)
 
 -- .. and their stream is as long as that of n words.
 pub length-written : {p : Profile} {s : ℕ} (n : ℕ) (bytes : List ℕ) → Carries p s → length (streamOf (patternsOf p) (carriers p s bytes n)) ≡ streamLength p n
