@@ -23,8 +23,8 @@ use Rattle.catalogue.specs.HighestBit.{one-largest}
 use Rattle.catalogue.specs.Rating.{messageRefusal}
 
 -- N(m) and s of a profile.
-abbrev pub wordsOf : Profile → ℕ
-wordsOf p = N (p .q) (p .x) (p .m)
+abbrev pub wordCount : Profile → ℕ
+wordCount p = N (p .q) (p .x) (p .m)
 
 abbrev pub lengthOf : Profile → ℕ
 lengthOf p = messageLength (p .q) (p .x) (p .m)
@@ -41,7 +41,7 @@ unfolding messageRefusal
 some-message p range other =
     let some : lengthOf p ≡ 0 → ⊥ = λ none. other (length-zero (p .q) (p .x) (p .m) (range .levels .least) (range .length .least) .0 none) in
     let four = length-positive (p .q) (p .x) (p .m) .0 (pos-of-ne-zero some) in
-    rw (ne-eqb (lengthOf p) 0 some, ne-eqb (wordsOf p - wordsKeptOut) 0 (λ none. omega arith))
+    rw (ne-eqb (lengthOf p) 0 some, ne-eqb (wordCount p - wordsKeptOut) 0 (λ none. omega arith))
 
 -- So it is given by m and q alone.
 pub number-four : (p : Profile) → InRange p → messageRefusal p ≡ refusedIf (eqb (p .m) 1 && leb (p .q) 3) 4
@@ -53,14 +53,14 @@ number-four p range = go (eqb (p .m) 1) (leb (p .q) 3) refl refl
     go false b s t = some-message p range (λ both. eqb-false (p .m) 1 s (both .0))
 
 -- A profile that is not refused has words that carry messages.
-pub words-carry : (p : Profile) → messageRefusal p .number ≡ 0 → wordsKeptOut < wordsOf p
+pub words-carry : (p : Profile) → messageRefusal p .number ≡ 0 → wordsKeptOut < wordCount p
 unfolding messageRefusal
-words-carry p = go (eqb (lengthOf p) 0) (eqb (wordsOf p - wordsKeptOut) 0) refl
+words-carry p = go (eqb (lengthOf p) 0) (eqb (wordCount p - wordsKeptOut) 0) refl
   where
-    go : (a b : Bool) → eqb (wordsOf p - wordsKeptOut) 0 ≡ b → refusedIf (a || b) 4 .number ≡ 0 → wordsKeptOut < wordsOf p
+    go : (a b : Bool) → eqb (wordCount p - wordsKeptOut) 0 ≡ b → refusedIf (a || b) 4 .number ≡ 0 → wordsKeptOut < wordCount p
     go true b t e = absurd (omega arith)
     go false true t e = absurd (omega arith)
-    go false false t e = let some : 0 < wordsOf p - wordsKeptOut = pos-of-ne-zero (eqb-false _ 0 t) in omega arith
+    go false false t e = let some : 0 < wordCount p - wordsKeptOut = pos-of-ne-zero (eqb-false _ 0 t) in omega arith
 
 -- A profile in range that has words that carry messages, and a table that belongs to it.
 pub record CarriesMessages (p : Profile) (table : List ℕ) : Type 0 where
@@ -73,7 +73,7 @@ pub record LessKeptOut (p : Profile) (number : ℕ) : Type 0 where
   pub some : 0 < number
   pub length : {s : ℕ} → Largest number s → s ≡ lengthOf p
 
-less-kept-out : (p : Profile) → messageRefusal p .number ≡ 0 → LessKeptOut p (wordsOf p - wordsKeptOut)
+less-kept-out : (p : Profile) → messageRefusal p .number ≡ 0 → LessKeptOut p (wordCount p - wordsKeptOut)
 less-kept-out p carries =
     let more = words-carry p carries in
     record { some = omega arith; length = λ {s} large. one-largest large (length-is-largest (p .q) (p .x) (p .m) more) }
@@ -94,7 +94,7 @@ unfolding numberAt value
 kept-out-hold = refl
 
 -- N(m) fits ten limbs.
-pub words-fit : {p : Profile} → InRange p → wordsOf p < base ^ 10
+pub words-fit : {p : Profile} → InRange p → wordCount p < base ^ 10
 words-fit {p} range = count-fits (p .q) (p .x) (p .m) (range .levels .least) (range .levels .most) (range .length .most) (range .reach .least)
 
 -- It is what the ten limbs of 0 hold once row m of the table is added and the words kept out are subtracted.
@@ -103,10 +103,10 @@ pub row-less-kept-out : {p : Profile} {table added rest : List ℕ} → CarriesM
     → rest ≡ holding 10 (numberAt 10 added 0 + base ^ 10 - numberAt 10 keptOut 0) added → LessKeptOut p (numberAt 10 rest 0)
 row-less-kept-out {p} {table} {added} {rest} h e f =
     let fits = words-fit (h .inRange) in
-    let held : added ≡ holding 10 (wordsOf p) zeros = rw (zeros-hold, h .belongs .rows (p .m) (le-refl (p .m)), zero-add) at e in
-    let number : numberAt 10 added 0 ≡ wordsOf p = rw held (numberAt-holding-below 10 zeros fits) in
+    let held : added ≡ holding 10 (wordCount p) zeros = rw (zeros-hold, h .belongs .rows (p .m) (le-refl (p .m)), zero-add) at e in
+    let number : numberAt 10 added 0 ≡ wordCount p = rw held (numberAt-holding-below 10 zeros fits) in
     let difference = holding-difference 10 added (le-of-lt (words-carry p (h .carries))) in
-    let less : rest ≡ holding 10 (wordsOf p - wordsKeptOut) added = rw (number, kept-out-hold) at f ∙ difference in
+    let less : rest ≡ holding 10 (wordCount p - wordsKeptOut) added = rw (number, kept-out-hold) at f ∙ difference in
     rw (less, numberAt-holding-below 10 added (lt-of-le-of-lt (sub-le _ 2) fits)) (less-kept-out p (h .carries))
 
 -- In range the message length is below 640.

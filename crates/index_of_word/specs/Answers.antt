@@ -9,8 +9,8 @@ use lib.Arith.{lt-one}
 use lib.Dec.{eqb}
 use lib.ListN.{length, take, drop, replicate, length-take}
 use borrow.Author.Tests.{eqb-true, eq-eqb, ne-eqb}
-use Rattle.limbs.specs.Limbs.{base, value, limbsOf, numberAt, holding, used, allLimbs}
-use Rattle.limbs.specs.ValueLaws.{base-positive}
+use Rattle.limbs.specs.Limbs.{base, limbsOf, holding, used, allLimbs}
+use Rattle.limbs.specs.ValueLaws.{base-positive, zeros-hold}
 use Rattle.limbs.specs.UsedLaws.{used-length, numberAt-below-used}
 use Rattle.replies.specs.declared.Reply.{Reply}
 use Rattle.replies.specs.declared.Profile.{Profile}
@@ -29,14 +29,7 @@ use Rattle.index_of_word.specs.Whole.{Indexable, withIndex}
 abbrev pub noLimbs : List ℕ
 noLimbs = replicate 10 0
 
--- They hold 0, as do the first n of them, ..
-value-of-none : (n k : ℕ) → value (take n (replicate k 0)) ≡ 0
-unfolding value
-value-of-none zero k = refl
-value-of-none (suc n) zero = refl
-value-of-none (suc n) (suc k) = rw (value-of-none n k)
-
--- .. and are the limbs of 0.
+-- They are the limbs of 0.
 limbs-of-none : (k : ℕ) → limbsOf k 0 ≡ replicate k 0
 unfolding limbsOf
 limbs-of-none zero = refl
@@ -51,10 +44,10 @@ limbs-above (suc n) k v l =
 
 -- The index summed up from 0, in the n limbs that it fits, is the index in ten limbs.
 pub index-in-ten : (q x n : ℕ) (cells : List ℕ) → n ≤ 10 → index q x cells < base ^ n → withIndex q x n cells noLimbs ≡ limbsOf 10 (index q x cells)
-unfolding holding numberAt
+unfolding holding
 index-in-ten q x n cells l h =
     let ten : n + (10 - n) ≡ 10 = omega arith in
-    rw (value-of-none n 10, zero-add) (rw ten at (limbs-above n (10 - n) (index q x cells) h))
+    rw (zeros-hold n 10, zero-add) (rw ten at (limbs-above n (10 - n) (index q x cells) h))
 
 -- The first test that refuses decides.
 module _ (p : Profile) (table cells : List ℕ) {profile : Reply} (e : profile ≡ profileRefusal p) where
@@ -118,7 +111,6 @@ module _ (p : Profile) (table cells : List ℕ) (all : allLimbs table) (s : NotR
 
   -- So its index may be summed up from 0, ..
   pub indexable : Indexable (p .q) (p .x) (limbsInUse (p .m) table) table cells noLimbs
-  unfolding numberAt
   indexable = record {
     levels = s .range .levels;
     reach = s .range .reach;
@@ -128,7 +120,7 @@ module _ (p : Profile) (table cells : List ℕ) (all : allLimbs table) (s : NotR
     limbs = few-limbs;
     lent = few-limbs;
     rows = rw (s .word .cells) last-row-fits;
-    fits = rw (value-of-none (limbsInUse (p .m) table) 10, zero-add) index-fits;
+    fits = rw (zeros-hold (limbsInUse (p .m) table) 10, zero-add) index-fits;
   }
 
   -- .. and is then the index in ten limbs.

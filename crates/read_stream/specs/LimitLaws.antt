@@ -15,7 +15,7 @@ use Rattle.listing.specs.Listing.{before}
 use Rattle.code.specs.Code.{LegalWord, N, index, word}
 use Rattle.code.specs.Laws.{OneWord, one-word-of-index, index-in-order, lower-index-first}
 use Rattle.code.specs.MessageLaws.{carrying-before-tops}
-use Rattle.catalogue.specs.LengthLaws.{wordsOf, lengthOf, words-carry, length-below, CarriesMessages}
+use Rattle.catalogue.specs.LengthLaws.{wordCount, lengthOf, words-carry, length-below, CarriesMessages}
 use Rattle.read_stream.specs.PowerLimbs.{powerLimbs, bit-inside, power-held}
 
 -- The word of the index 2^s.
@@ -24,11 +24,11 @@ limitOf p = word (p .q) (p .x) (p .m) (2 ^ lengthOf p)
 
 -- Cells that are that word, and there is one.
 pub record Limits (p : Profile) (limit : List ℕ) : Type 0 where
-  pub exists : 2 ^ lengthOf p < wordsOf p
+  pub exists : 2 ^ lengthOf p < wordCount p
   pub cells : limit ≡ limitOf p
 
 -- Where words carry messages there is one.
-limit-exists : {p : Profile} {table : List ℕ} → CarriesMessages p table → 2 ^ lengthOf p < wordsOf p
+limit-exists : {p : Profile} {table : List ℕ} → CarriesMessages p table → 2 ^ lengthOf p < wordCount p
 limit-exists {p} h = lt-of-lt-of-le (carrying-before-tops (p .q) (p .x) (p .m) (words-carry p (h .carries))) (sub-le _ 1)
 
 -- A profile that has words that carry messages, a table that belongs to it, and its message length.
@@ -44,7 +44,7 @@ module _ {p : Profile} {table : List ℕ} {s : ℕ} (ready : CarriesMessages p t
   held = rw same (power-held (lengthOf p) (rw same at small))
 
   -- There is a word of that index.
-  pub limit-below : numberAt 10 (powerLimbs s) 0 < wordsOf p
+  pub limit-below : numberAt 10 (powerLimbs s) 0 < wordCount p
   limit-below = rw held (limit-exists ready)
 
   -- It is what is spelt.
@@ -75,7 +75,7 @@ unfolding limitOf
 limit-tells {p} w limits r = rw (limits .cells) (index-above (p .q) (p .x) (p .m) _ w (limits .exists) r)
 
 -- It is as long as every word, so it is what stands in its first m cells.
-limit-cells : (p : Profile) → 2 ^ lengthOf p < wordsOf p → length (limitOf p) ≡ p .m
+limit-cells : (p : Profile) → 2 ^ lengthOf p < wordCount p → length (limitOf p) ≡ p .m
 unfolding limitOf
 limit-cells p exists = one-word-of-index (p .q) (p .x) (p .m) _ exists .found .cells
 

@@ -7,8 +7,8 @@ use native.Mathlib.Nat.{le-trans, lt-of-lt-of-le, lt-of-le-of-lt, le-refl, le-of
 use native.Mathlib.Numerals.{sub-one}
 use native.Mathlib.Omega.{arith}
 use lib.ListN.{length, take, drop, replicate, length-take}
-use Rattle.limbs.specs.Limbs.{base, value, numberAt, holding, allLimbs, used}
-use Rattle.limbs.specs.ValueLaws.{numberAt-below, lowest-limbs}
+use Rattle.limbs.specs.Limbs.{base, numberAt, holding, allLimbs, used}
+use Rattle.limbs.specs.ValueLaws.{numberAt-below, lowest-limbs, zeros-hold}
 use Rattle.limbs.specs.HoldingLaws.{length-holding, numberAt-holding-below}
 use Rattle.limbs.specs.UsedLaws.{used-length, numberAt-below-used}
 use Rattle.replies.specs.declared.Profile.{Profile}
@@ -25,13 +25,6 @@ use Rattle.word_of_index.specs.Settling.{Goes, times-go, level-first, le
 use Rattle.word_of_index.specs.Tasks.{wordBehind, weightBehind, lowCells, levelOf, leftBy, Task}
 use Rattle.word_of_index.specs.WeightLaws.{open-legal, most-open, guard-within}
 use Rattle.word_of_index.specs.WeightLaws.{weight-open, weight-guarded, weight-positive, weight-within}
-
--- Limbs that are all 0 hold 0.
-zeros-hold : (n k : ℕ) → numberAt n (replicate k 0) 0 ≡ 0
-unfolding numberAt value
-zeros-hold zero k = refl
-zeros-hold (suc n) zero = refl
-zeros-hold (suc n) (suc k) = rw (zeros-hold n k)
 
 -- The whole word is the first task, in an open stretch.
 pub open-word : (q x m i : ℕ) → 1 < q → wordBehind q x 0 m i ≡ word q x m i

@@ -16,7 +16,7 @@ use Rattle.patterns.specs.StreamLaws.{stream-length}
 use Rattle.listing.specs.Every.{every, every-implies}
 use Rattle.code.specs.Laws.{one-word-of-index}
 use Rattle.code.specs.MessageLaws.{length-positive, carrying-before-tops}
-use Rattle.catalogue.specs.LengthLaws.{wordsOf, lengthOf, words-fit, length-below}
+use Rattle.catalogue.specs.LengthLaws.{wordCount, lengthOf, words-fit, length-below}
 use Rattle.catalogue.specs.Rating.{messageRefusal}
 use Rattle.bits.specs.Bits.{numberOf, bitsOfBytes, messagesIn}
 use Rattle.bits.specs.BitLaws.{drop-bits, numberOf-take-below, bitsOfBytes-bits}
@@ -55,8 +55,8 @@ number-below s at bytes = numberOf-take-below s _ (drop-bits at _ (bitsOfBytes-b
 pub record Carries (p : Profile) (s : ℕ) : Type 0 where
   pub some : 0 < s
   pub most : s < 640
-  pub within : 2 ^ s < wordsOf p - 1
-  pub fits : wordsOf p < base ^ 10
+  pub within : 2 ^ s < wordCount p - 1
+  pub fits : wordCount p < base ^ 10
 
 some-length : (p : Profile) → messageRefusal p .number ≡ 0 → 0 < lengthOf p
 unfolding messageRefusal
@@ -76,7 +76,7 @@ carries {p} ready =
     })
 
 -- The index of a message of s bits is that of a word.
-pub index-below : {p : Profile} {s v : ℕ} → Carries p s → v < 2 ^ s → indexOf v < wordsOf p
+pub index-below : {p : Profile} {s v : ℕ} → Carries p s → v < 2 ^ s → indexOf v < wordCount p
 index-below c l = omega (arith, c .within)
 
 -- So the word that carries it has m cells.

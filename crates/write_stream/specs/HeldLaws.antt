@@ -9,7 +9,7 @@ use Rattle.limbs.specs.HoldingLaws.{numberAt-all, holding-all}
 use Rattle.limbs.specs.ValueLaws.{length-limbsOf, value-limbsOf-below}
 use Rattle.numbers.specs.Step.{firstIndex, indexOf}
 use Rattle.replies.specs.declared.Profile.{Profile}
-use Rattle.catalogue.specs.LengthLaws.{wordsOf}
+use Rattle.catalogue.specs.LengthLaws.{wordCount}
 use Rattle.write_stream.specs.Steps.{messageAt, Ready}
 use Rattle.write_stream.specs.CarrierLaws.{number-below, carries, index-below}
 
@@ -17,9 +17,9 @@ use Rattle.write_stream.specs.CarrierLaws.{number-below, carries, index-
 pub record IndexHeld (p : Profile) (message : ℕ) (index : List ℕ) : Type 0 where
   pub ten : length index ≡ 10
   pub number : numberAt 10 index 0 ≡ indexOf message
-  pub below : numberAt 10 index 0 < wordsOf p
+  pub below : numberAt 10 index 0 < wordCount p
 
-index-held : {p : Profile} {message : ℕ} {index : List ℕ} → indexOf message < wordsOf p → indexOf message < base ^ 10 → index ≡ limbsOf 10 (indexOf message)
+index-held : {p : Profile} {message : ℕ} {index : List ℕ} → indexOf message < wordCount p → indexOf message < base ^ 10 → index ≡ limbsOf 10 (indexOf message)
     → IndexHeld p message index
 index-held {index = index} below fits e =
     let ten = ap length e ∙ length-limbsOf 10 _ in
