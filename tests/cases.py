@@ -1,32 +1,54 @@
 """What the programs that write test cases share: the cases with their answers, lent tables, runs of cells, a digest of limbs.
 
-In a script only the numbers count; the words say what they are.
+In a script only the numbers count; the words say what they are, and the first of them which call it is.
 """
 
+import re
 import sys
+from collections import defaultdict
 
 import second
 
 LIMB_MARK, CELL_MARK = 1000003, 200
 LARGE = 18446744073709551600
-script, answers = [], []
+script, answers, met = [], [], defaultdict(set)
+
+# Every number that each call can give.
+NUMBERS = {
+    "build": {0, 1, 2, 3, 9},
+    "shipped": {0, 2, 9},
+    "index": {0, 1, 2, 3, 5, 6, 7, 10, 11},
+    "word": {0, 1, 2, 3, 5, 6, 9, 12},
+    "write": {0, 1, 2, 3, 4, 5, 6, 7, 8, 9},
+    "read": {0, 1, 2, 3, 4, 5, 6, 7, 9, 10, 11, 13, 14, 15},
+    "join": {0, 1, 2, 3, 7, 9, 10, 11, 13},
+    "turn": {0, 1, 2, 3, 7, 9, 10, 11, 13},
+    "find": {0, 1, 3, 7, 10, 11},
+    "published": {0, 12},
+    "rate": {0, 1, 2, 3, 4, 5, 6, 7},
+    "list": {0, 9},
+    "long": {0, 7},
+}
 
 
 def case(text, *answer):
+    met[re.search("[a-z]+", text)[0]].add(answer[0])
     script.append(text)
     answers.append("".join(f" {number}" for number in answer))
 
 
 def print_chosen():
-    """The script or the answers, as the command says."""
+    """The script or the answers, as the command says, if every number that the calls can give is among them."""
+    for call, numbers in met.items():
+        if numbers != NUMBERS[call]:
+            sys.exit(f"{call}: the cases give {sorted(numbers)}, and not {sorted(NUMBERS[call])}")
     print("\n".join([f"{len(script)} cases", *script] if sys.argv[1] == "script" else answers))
 
 
 def digest(numbers):
     total = 0
     for number in numbers:
-        for half in (number % 2**32, number // 2**32):
-            total = (total * 65599 + half) % 4294967291
+        total = ((total * 65599 + number % 2**32) * 65599 + number // 2**32) % 4294967291
     return total
 
 

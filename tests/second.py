@@ -6,6 +6,7 @@ from the counts of the words that begin as it does. Bits are text of the digits 
 least is given. Each answer is a list: the number, the place, and what else the call gives.
 """
 
+import re
 from functools import cache
 from itertools import product
 
@@ -303,3 +304,28 @@ def turn(q, m, x, cells, lent):
     refusal = refusal or ([7, 0] if n is None or n > 256 else None) or ([9, 0] if len(lent) < len(cells) else None)
     refusal = refusal or least(faults(q, m, x, cells))
     return written(refusal, cells[::-1], lent)
+
+
+@cache
+def printed(data):
+    """What the listing program prints for the bytes that it reads."""
+    number = b"(0|[1-9][0-9]{0,2})"
+    line = re.fullmatch(number + b" " + number + b" " + number + b"\n", data)
+    if not line:
+        return "refused line\n"
+    q, m, x = map(int, line.groups())
+    refusal = refused_profile(q, m, x)
+    if refusal:
+        return f"refused {refusal[0]}\n"
+    if count(q, x, m) > 4096:
+        return "too many\n"
+    s = message_length(q, x, m)
+    lines = [f"{q} {m} {x} {count(q, x, m)} {s}"]
+    for i in range(count(q, x, m)):
+        message = i - 1 if s and 1 <= i <= 2**s else "-"
+        lines.append(f"{i} {','.join(map(str, word_of(q, x, m, i)))} {message}")
+    return "".join(f"{line}\n" for line in lines)
+
+
+def list_code(data, lent):
+    return written([9, 0] if len(lent) < 262144 else None, printed(data).encode(), lent)

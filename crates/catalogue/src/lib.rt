@@ -1,10 +1,8 @@
 // The published profiles, the message length of a profile, and its rate.
 ghost use mathlib.Core.Path.{_≡_};
 ghost use Prim.Native.Nat.{_≤_, _<_};
-ghost use lib.Dec.{ltb};
 ghost use lib.ListN.{length};
 ghost use Rattle.limbs.specs.Limbs.{numberAt};
-ghost use Rattle.replies.specs.Replies.{refusedIf};
 ghost use Rattle.replies.specs.ReplyLaws.{InRange};
 ghost use Rattle.code.specs.Messages.{messageLength};
 ghost use Rattle.code.specs.MessageLaws.{Largest};

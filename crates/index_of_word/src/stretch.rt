@@ -1,7 +1,7 @@
 // The walkers of a word: an open stretch hands over to a guarded one at each top, and a guarded one
 // becomes open behind its cells. Each adds what its cells weigh to the sum, from the lent table.
 ghost use mathlib.Core.Path.{_≡_};
-ghost use Prim.Native.Nat.{suc, _+_, _-_, _*_, _^_, _≤_};
+ghost use Prim.Native.Nat.{suc, _+_, _-_, _*_, _≤_};
 ghost use lib.ListN.{length, take, drop};
 ghost use Rattle.index_of_word.specs.IndexBehind.{digits, guardedCells, guardedRow, guardedFactor};
 ghost use Rattle.index_of_word.specs.Levels.{GuardedRun};

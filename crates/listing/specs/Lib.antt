@@ -1,5 +1,6 @@
--- Every and Listing hold the definitions, Examples the worked examples; the other files hold the laws.
+-- Every, Same and Listing hold the definitions, Examples the worked examples; the other files hold the laws.
 pub mod Every
+pub mod Same
 pub mod Listing
 pub mod Examples
 pub mod Sums
@@ -7,3 +8,4 @@ pub mod FirstCell
 pub mod Order
 pub mod Inverse
 pub mod Limits
+pub mod EachLevel

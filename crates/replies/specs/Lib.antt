@@ -3,4 +3,5 @@ pub mod Replies
 pub mod Examples
 pub mod ReplyLaws
 pub mod LowestLaws
+pub mod NumberLaws
 pub mod WritingLaws

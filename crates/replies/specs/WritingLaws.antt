@@ -1,12 +1,14 @@
 -- Laws of a call that writes: what it answers and leaves in the lent list where it is refused, and where it is done.
 use mathlib.Core.Path.{_≡_, refl}
 use mathlib.Core.List.{List, _++_}
-use Prim.Native.Nat.{ℕ}
-use lib.ListN.{length, drop}
+use Prim.Native.Nat.{ℕ, _≤_}
+use native.Mathlib.Omega.{arith}
+use lib.ListN.{length, drop, length-append}
 use borrow.Author.Tests.{eq-eqb, ne-eqb}
 use Rattle.replies.specs.declared.Reply.{Reply}
 use Rattle.replies.specs.declared.Written.{Written}
-use Rattle.replies.specs.Replies.{done, Outcome, writingCounted}
+use Rattle.replies.specs.NumberLaws.{picked}
+use Rattle.replies.specs.Replies.{done, isDone, Outcome, writingCounted, writing}
 
 -- A call's answer and what it leaves in the lent list are those of an outcome.
 abbrev pub Comes : Outcome → Written → List ℕ → Type 0
@@ -24,3 +26,13 @@ pub writing-done : (reply refusal : Reply) (count : ℕ) (content lent : List �
     → Comes (writingCounted refusal count content lent) (record { reply = done; count = given }) after
 unfolding writingCounted
 writing-done reply refusal count content lent e z c a = rw (← e, eq-eqb (reply .number) 0 z) (rw c, a)
+
+-- What a call that writes cells, limbs or bytes counts stands in the lent list.
+abbrev Inside : Outcome → Type 0
+Inside outcome = outcome .answer .count ≤ length (outcome .lent)
+
+pub count-inside : (refusal : Reply) (content lent : List ℕ) {answer : Written} {after : List ℕ} → Comes (writing refusal content lent) answer after
+    → answer .count ≤ length after
+unfolding writingCounted
+count-inside refusal content lent {answer} {after} c =
+    rw (c .0, c .1) (picked Inside (isDone refusal) (λ e. rw length-append (omega arith)) (λ e. omega arith))

@@ -1,15 +1,17 @@
 -- The shipped table, of q = 4 and x = 1: 129 rows of four limbs. Each is held to the recursion, once over all rows.
-use mathlib.Core.Path.{_≡_, refl, sym, ap, ap₂, _∙_}
-use mathlib.Core.Bool.{Bool, true, false, _&&_, true≢false}
+use mathlib.Core.Path.{_≡_, refl, ap, _∙_}
+use mathlib.Core.Bool.{Bool, true}
 use mathlib.Core.List.{List, [], _∷_}
-use mathlib.Core.Logic.{⊎-elim}
-use Prim.Native.Nat.{ℕ, zero, suc, _+_, _-_, _*_, _≤_, _<_}
-use native.Mathlib.Nat.{eq-or-lt-of-le, zero-add, suc-add}
+use Prim.Native.Nat.{ℕ, zero, suc, _+_, _-_, _*_, _≤_, zero-le}
+use native.Mathlib.Nat.{zero-add, suc-add}
 use native.Mathlib.Omega.{arith}
-use lib.Dec.{eqb, lit<}
+use lib.Dec.{lit<}
 use lib.ListN.{getD}
-use borrow.Author.Tests.{eqb-true}
 use Rattle.limbs.specs.Limbs.{limbsOf}
+use Rattle.listing.specs.Every.{every}
+use Rattle.listing.specs.Same.{same, same-equal}
+use Rattle.listing.specs.Listing.{levels}
+use Rattle.listing.specs.EachLevel.{each-level}
 use Rattle.code.specs.Code.{N}
 use Rattle.code.specs.Formulas.{withNext, countsDownFrom, countByRecursion}
 use Rattle.code.specs.Theorem1.{recursion-counts}
@@ -155,42 +157,12 @@ shippedRow i =
     getD shippedLimbs (4 * i) 0 ∷ getD shippedLimbs (4 * i + 1) 0 ∷ getD shippedLimbs (4 * i + 2) 0 ∷ getD shippedLimbs (4 * i + 3) 0 ∷
     0 ∷ 0 ∷ 0 ∷ 0 ∷ 0 ∷ 0 ∷ []
 
--- Two lists are the same.
-abbrev sameList : List ℕ → List ℕ → Bool
-sameList [] [] = true
-sameList [] (b ∷ others) = false
-sameList (a ∷ more) [] = false
-sameList (a ∷ more) (b ∷ others) = eqb a b && sameList more others
-
-both : (a b : Bool) → (a && b) ≡ true → (a ≡ true) × (b ≡ true)
-both true b e = (refl, e)
-both false b e = absurd (true≢false (sym e))
-
-same-list : (l k : List ℕ) → sameList l k ≡ true → l ≡ k
-same-list [] [] e = refl
-same-list [] (b ∷ others) e = absurd (true≢false (sym e))
-same-list (a ∷ more) [] e = absurd (true≢false (sym e))
-same-list (a ∷ more) (b ∷ others) e =
-    let parts = both (eqb a b) (sameList more others) e in
-    ap₂ {C = List ℕ} (λ (y : ℕ) (ys : List ℕ). y ∷ ys) (eqb-true a b (parts .0)) (same-list more others (parts .1))
-
--- A test that each of the numbers below n passes.
-abbrev eachBelow : (ℕ → Bool) → ℕ → Bool
-eachBelow test zero = true
-eachBelow test (suc n) = test n && eachBelow test n
-
-each-below : (test : ℕ → Bool) (n i : ℕ) → eachBelow test n ≡ true → i < n → test i ≡ true
-each-below test zero i e l = absurd (omega arith)
-each-below test (suc n) i e l =
-    let parts = both (test n) (eachBelow test n) e in
-    ⊎-elim (λ (s : i ≡ n). rw s (parts .0)) (λ (s : i < n). each-below test n i (parts .1) s) (eq-or-lt-of-le {n = i} {m = n} (omega arith))
-
 -- Row i holds the count that the recursion gives.
 rowPasses : List ℕ → ℕ → Bool
-rowPasses counts i = sameList (shippedRow i) (limbsOf 10 (getD counts (128 - i) 0))
+rowPasses counts i = same (shippedRow i) (limbsOf 10 (getD counts (128 - i) 0))
 
-all-rows-pass : eachBelow (rowPasses (countsDownFrom 4 1 128)) 129 ≡ true
-unfolding rowPasses shippedLimbs countsDownFrom limbsOf
+all-rows-pass : every (rowPasses (countsDownFrom 4 1 128)) (levels 129) ≡ true
+unfolding same rowPasses shippedLimbs countsDownFrom limbsOf
 all-rows-pass = refl
 
 -- The counts before N(m) are those that the recursion gave on the way.
@@ -210,7 +182,7 @@ shipped-row i l =
     let back : 128 ≡ 128 - i + i = omega arith in
     let count : getD (countsDownFrom 4 1 128) (128 - i) 0 ≡ N 4 1 i =
     ap (λ (m : ℕ). getD (countsDownFrom 4 1 m) (128 - i) 0) back ∙ counts-before 4 1 i (128 - i) ∙ recursion-counts 4 1 i (lit< tt) in
-    same-list _ _ (each-below (rowPasses (countsDownFrom 4 1 128)) 129 i all-rows-pass (omega arith)) ∙ ap (limbsOf 10) count
+    same-equal _ _ (each-level (rowPasses (countsDownFrom 4 1 128)) 0 129 i all-rows-pass zero-le (omega arith)) ∙ ap (limbsOf 10) count
 
 -- And its copy is the row of the built table.
 pub row-copied : (i : ℕ) (lent : List ℕ) {after : List ℕ} → i ≤ 128 → after ≡ withRow i (shippedRow i) lent

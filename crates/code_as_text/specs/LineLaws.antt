@@ -1,0 +1,68 @@
+-- The parts of a header and of the line of an index, and the lines of one index more.
+use mathlib.Core.Path.{_≡_}
+use mathlib.Core.List.{List, [], _∷_, _++_}
+use Prim.Native.Nat.{ℕ, suc, _+_, _≤_, _<_}
+use native.Mathlib.Numerals.{add-one}
+use native.Mathlib.Omega.{arith}
+use lib.ListN.{length}
+use Rattle.replies.specs.declared.Profile.{Profile}
+use Rattle.replies.specs.ReplyLaws.{InRange}
+use Rattle.code.specs.Code.{word}
+use Rattle.catalogue.specs.LengthLaws.{wordCount}
+use Rattle.text.specs.Text.{bytes, decimal, levelsText}
+use Rattle.text.specs.Line.{profileText}
+use Rattle.text.specs.Put.{Fits, Put}
+use Rattle.text.specs.PutLaws.{first-fits, more-fits, put-nothing, put-more}
+use Rattle.text.specs.PartLaws.{inRow}
+use Rattle.code_as_text.specs.Printed.{statedLength, lastCarrying, header, messageText, wordLine, wordLines, mostBytes}
+use Rattle.code_as_text.specs.FitLaws.{code-fits, lines-grow}
+
+-- The parts of a header ..
+abbrev pub headerParts : Profile → ℕ → ℕ → List (List ℕ)
+headerParts p n s = profileText p ∷ bytes " " ∷ decimal n ∷ bytes " " ∷ decimal s ∷ bytes "\n" ∷ []
+
+pub header-parts : (p : Profile) {n s : ℕ} → n ≡ wordCount p → s ≡ statedLength p → header p ≡ inRow (headerParts p n s)
+unfolding header
+header-parts p count length = rw (count, length)
+
+-- .. and of the line of an index.
+abbrev pub lineParts : ℕ → List ℕ → ℕ → List (List ℕ)
+lineParts i cells last = decimal i ∷ bytes " " ∷ levelsText cells ∷ bytes " " ∷ messageText last i ∷ bytes "\n" ∷ []
+
+pub line-parts : (p : Profile) (i : ℕ) {last : ℕ} {cells : List ℕ} → last ≡ lastCarrying p → cells ≡ word (p .q) (p .x) (p .m) i
+    → wordLine p i ≡ inRow (lineParts i cells last)
+unfolding wordLine
+line-parts p i carrying spelt = rw (carrying, spelt)
+
+-- The lines of no index are nothing, ..
+pub no-lines : (p : Profile) (lent : List ℕ) (at : ℕ) → at ≤ length lent → Put lent at (wordLines p 0) lent at
+unfolding wordLines
+no-lines p lent at room = put-nothing lent at room
+
+-- .. and with the line of index i behind the lines of those below it they are the lines of one index more.
+module _ (p : Profile) {lent now : List ℕ} {at next : ℕ} (i : ℕ) (lines : Put lent at (wordLines p i) now next) where
+  pub line-fits : (n : ℕ) → i < n → Fits lent at (wordLines p n) → Fits now next (wordLine p i)
+  unfolding wordLines
+  line-fits n below room =
+      let grown = lines-grow p (suc i) n below in
+      more-fits (wordLine p i) lines (omega arith)
+
+  pub line-put : {after : List ℕ} {last : ℕ} → Put now next (wordLine p i) after last → Put lent at (wordLines p (i + 1)) after last
+  unfolding wordLines
+  line-put line = rw add-one (put-more lines line)
+
+-- A code of n words, at most 4,096: the header fits, the lines of its words behind it do, and both together are the whole code.
+module _ (p : Profile) {n : ℕ} (count : n ≡ wordCount p) where
+  module _ (range : InRange p) (few : n ≤ 4096) (lent : List ℕ) (room : mostBytes ≤ length lent) where
+    code-room : Fits lent 0 (header p ++ wordLines p n)
+    code-room = rw count (let most = code-fits p range (rw count at few) in omega arith)
+
+    pub header-fits : Fits lent 0 (header p)
+    header-fits = first-fits lent 0 (header p) (wordLines p n) code-room
+
+    pub lines-fit : {now : List ℕ} {next : ℕ} → Put lent 0 (header p) now next → Fits now next (wordLines p n)
+    lines-fit front = more-fits (wordLines p n) front code-room
+
+  pub code-put : {lent now after : List ℕ} {next last : ℕ} → Put lent 0 (header p) now next → Put now next (wordLines p n) after last
+      → Put lent 0 (header p ++ wordLines p (wordCount p)) after last
+  code-put front lines = rw (← count) (put-more front lines)

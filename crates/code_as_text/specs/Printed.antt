@@ -1,0 +1,57 @@
+-- What the listing program prints.
+use mathlib.Core.Bool.{cond, _&&_}
+use mathlib.Core.List.{List, [], _++_}
+use Prim.Native.Nat.{ℕ, zero, suc, _^_}
+use lib.Dec.{ltb, leb}
+use lib.ListN.{length}
+use Rattle.replies.specs.declared.Profile.{Profile}
+use Rattle.replies.specs.Replies.{isDone, profileRefusal, roomRefusal, Outcome, writing}
+use Rattle.numbers.specs.Step.{firstIndex, messageOf}
+use Rattle.code.specs.Code.{word}
+use Rattle.catalogue.specs.LengthLaws.{wordCount, lengthOf}
+use Rattle.catalogue.specs.Rating.{messageRefusal}
+use Rattle.text.specs.Text.{bytes, decimal, levelsText}
+use Rattle.text.specs.Line.{profileText, profileIn, isLineOf}
+
+-- The message length s, and the last index that carries a message, 2^s; both are 0 where number 4 would be given.
+abbrev pub statedLength : Profile → ℕ
+statedLength p = cond (isDone (messageRefusal p)) (lengthOf p) 0
+
+abbrev pub lastCarrying : Profile → ℕ
+lastCarrying p = cond (isDone (messageRefusal p)) (2 ^ lengthOf p) 0
+
+-- q m x N s.
+unfoldable pub header : Profile → List ℕ
+header p = profileText p ++ (bytes " " ++ (decimal (wordCount p) ++ (bytes " " ++ (decimal (statedLength p) ++ bytes "\n"))))
+
+-- The message that an index carries, or a hyphen, where `last` is the last index that carries one.
+unfoldable pub messageText : ℕ → ℕ → List ℕ
+messageText last i = cond (leb firstIndex i && leb i last) (decimal (messageOf i)) (bytes "-")
+
+-- The line of an index: index, levels joined by commas, and the message or a hyphen.
+unfoldable pub wordLine : Profile → ℕ → List ℕ
+wordLine p i =
+    decimal i ++ (bytes " " ++ (levelsText (word (p .q) (p .x) (p .m) i) ++ (bytes " " ++ (messageText (lastCarrying p) i ++ bytes "\n"))))
+
+-- The lines of the indices 0, 1, .., n - 1.
+unfoldable pub wordLines : Profile → ℕ → List ℕ
+wordLines p zero = []
+wordLines p (suc n) = wordLines p n ++ wordLine p n
+
+-- What is printed for a profile: numbers 1 to 3, `too many` for N above 4096, or the whole code.
+unfoldable pub answerText : Profile → List ℕ
+answerText p =
+    cond (isDone (profileRefusal p)) (cond (ltb 4096 (wordCount p)) (bytes "too many\n") (header p ++ wordLines p (wordCount p)))
+    (bytes "refused " ++ (decimal (profileRefusal p .number) ++ bytes "\n"))
+
+-- What is printed for any bytes: they are the line of the numbers in them, or they are refused.
+unfoldable pub printed : List ℕ → List ℕ
+printed line = cond (isLineOf line (profileIn line)) (answerText (profileIn line)) (bytes "refused line\n")
+
+-- No more than so many bytes are printed.
+abbrev pub mostBytes : ℕ
+mostBytes = 262144
+
+-- The outcome of listing: 9 for a lent text of fewer bytes than that.
+unfoldable pub listing : List ℕ → List ℕ → Outcome
+listing line lent = writing (roomRefusal mostBytes (length lent)) (printed line) lent
