@@ -22,30 +22,33 @@ use Rattle.text.specs.PartLaws.{inRow, Begun, none-put}
 use Rattle.code_as_text.specs.Printed.{header, wordLines, answerText, printed, mostBytes, listing}
 use Rattle.code_as_text.specs.FitLaws.{answer-fits}
 
--- What is printed for a profile that is refused has three parts, with the number of the refusal between the others.
+-- The parts of what is printed for a refusal: its number stands between the others.
 abbrev pub refusedParts : Reply → List (List ℕ)
 refusedParts r = bytes "refused " ∷ decimal (r .number) ∷ bytes "\n" ∷ []
 
+-- What is printed for a profile that is refused has these parts.
 refused-parts : (p : Profile) {r : Reply} → r ≡ profileRefusal p → (r .number ≡ 0 → ⊥) → answerText p ≡ inRow (refusedParts r)
 unfolding answerText
 refused-parts p {r} e some = rw (← e, ne-eqb (r .number) 0 some)
 
+-- It fits where the most bytes do, and no part of it is put yet.
 pub answer-refused : (p : Profile) {r : Reply} → r ≡ profileRefusal p → (r .number ≡ 0 → ⊥) → (lent : List ℕ) → mostBytes ≤ length lent
     → Begun lent 0 (answerText p) lent 0 (refusedParts r)
 answer-refused p {r} e some lent room =
     none-put (refusedParts r) (refused-parts p e some) (let most = answer-fits p in omega arith)
 
 module _ (p : Profile) {r : Reply} (e : r ≡ profileRefusal p) (none : r .number ≡ 0) {many : Bool} (tested : many ≡ ltb 4096 (wordCount p)) where
-  -- What is printed for a code of more words than are listed.
+  -- What is printed for a code of more words than are listed is that there are too many.
   pub answer-too-many : many ≡ true → answerText p ≡ bytes "too many\n"
   unfolding answerText
   answer-too-many more = rw (← e, eq-eqb (r .number) 0 none, ← tested, more)
 
-  -- What is printed for any other: the whole code, which has few words.
+  -- What is printed for any other is the whole code, ..
   pub answer-listed : many ≡ false → answerText p ≡ header p ++ wordLines p (wordCount p)
   unfolding answerText
   answer-listed few = rw (← e, eq-eqb (r .number) 0 none, ← tested, few)
 
+  -- .. which has at most 4,096 words.
   pub few-words : many ≡ false → wordCount p ≤ 4096
   few-words few = ltb-false 4096 (wordCount p) (rw tested at few)
 
@@ -55,7 +58,7 @@ module _ (line : List ℕ) {p : Profile} {is : Bool} (found : p ≡ profileIn li
   unfolding printed
   printed-answer right = rw (← found, ← tested, right)
 
-  -- Any other bytes are refused.
+  -- What is printed for any other bytes is that the line is refused.
   pub printed-refused : is ≡ false → printed line ≡ bytes "refused line\n"
   unfolding printed
   printed-refused wrong = rw (← found, ← tested, wrong)

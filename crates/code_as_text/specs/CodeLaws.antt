@@ -35,16 +35,18 @@ built-table {p} range lent room e =
 abbrev mostWords : List ℕ
 mostWords = 4096 ∷ 0 ∷ 0 ∷ 0 ∷ 0 ∷ 0 ∷ 0 ∷ 0 ∷ 0 ∷ 0 ∷ []
 
+-- They hold 4,096.
 most-words : numberAt 10 mostWords 0 ≡ 4096
 unfolding numberAt value
 most-words = refl
 
--- The order of two numbers says whether the first is below the second.
+-- What an order says of two numbers: whether the first is below the second.
 abbrev isLess : Order → Bool
 isLess Less = true
 isLess Equal = false
 isLess Greater = false
 
+-- It says so rightly.
 is-less : (a b : ℕ) (order : Order) → Ordered a b order → isLess order ≡ ltb a b
 is-less a b Less l = rw (lt-ltb a b l)
 is-less a b Equal e = rw (le-ltb a b (omega arith))
@@ -62,7 +64,7 @@ module _ {p : Profile} {table : List ℕ} (belongs : Belongs (p .q) (p .x) (p .m
   words-compared {found} {order} e f =
       is-less 4096 (wordCount p) order (rw (← f) (rw (most-words, belongs .rows (p .m) (le-refl _)) at (order-says _ _ e)))
 
-  -- Its first limb is the number of words, for a code of at most 4,096.
+  -- The first limb of row m is the number of words of a code of at most 4,096.
   pub words-limb : wordCount p ≤ 4096 → getD table (10 * p .m) 0 ≡ wordCount p
   words-limb few =
       let right = belongs .rows (p .m) (le-refl _) in

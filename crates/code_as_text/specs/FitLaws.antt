@@ -37,7 +37,7 @@ unfolding wordLine
 line-within-61 {p} range few i l =
     let index = decimal-length 3 i (omega arith) in
     let levels = small-codes range few i l in
-    let message = message-within-4 (lastCarrying p) i (omega arith) in
+    let message = message-within-4 (lastCarrying (statedLength p)) i (omega arith) in
     simp length-append (omega arith)
 
 -- The lines of the first n indices take at most 61 bytes each.

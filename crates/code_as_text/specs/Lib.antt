@@ -6,6 +6,6 @@ pub mod IndexLaws
 pub mod CodeLaws
 pub mod SmallCodes
 pub mod FitLaws
-pub mod LineLaws
+pub mod ListedLaws
 pub mod AnswerLaws
 pub mod InputLaws

@@ -2,7 +2,7 @@
 use mathlib.Core.Bool.{cond, _&&_}
 use mathlib.Core.List.{List, [], _++_}
 use Prim.Native.Nat.{ℕ, zero, suc, _^_}
-use lib.Dec.{ltb, leb}
+use lib.Dec.{ltb, leb, eqb}
 use lib.ListN.{length}
 use Rattle.replies.specs.declared.Profile.{Profile}
 use Rattle.replies.specs.Replies.{isDone, profileRefusal, roomRefusal, Outcome, writing}
@@ -13,12 +13,13 @@ use Rattle.catalogue.specs.Rating.{messageRefusal}
 use Rattle.text.specs.Text.{bytes, decimal, levelsText}
 use Rattle.text.specs.Line.{profileText, profileIn, isLineOf}
 
--- The message length s, and the last index that carries a message, 2^s; both are 0 where number 4 would be given.
+-- The message length s; 0 where number 4 would be given.
 abbrev pub statedLength : Profile → ℕ
 statedLength p = cond (isDone (messageRefusal p)) (lengthOf p) 0
 
-abbrev pub lastCarrying : Profile → ℕ
-lastCarrying p = cond (isDone (messageRefusal p)) (2 ^ lengthOf p) 0
+-- The last index that carries a message of s bits; there is none where s is 0.
+abbrev pub lastCarrying : ℕ → ℕ
+lastCarrying s = cond (eqb s 0) 0 (2 ^ s)
 
 -- q m x N s.
 unfoldable pub header : Profile → List ℕ
@@ -31,7 +32,7 @@ messageText last i = cond (leb firstIndex i && leb i last) (decimal (messageOf i
 -- The line of an index: index, levels joined by commas, and the message or a hyphen.
 unfoldable pub wordLine : Profile → ℕ → List ℕ
 wordLine p i =
-    decimal i ++ (bytes " " ++ (levelsText (word (p .q) (p .x) (p .m) i) ++ (bytes " " ++ (messageText (lastCarrying p) i ++ bytes "\n"))))
+    decimal i ++ (bytes " " ++ (levelsText (word (p .q) (p .x) (p .m) i) ++ (bytes " " ++ (messageText (lastCarrying (statedLength p)) i ++ bytes "\n"))))
 
 -- The lines of the indices 0, 1, .., n - 1.
 unfoldable pub wordLines : Profile → ℕ → List ℕ

@@ -42,10 +42,10 @@ fn stated_length(p: Profile, table: &[u64]) -> usize
     catalogue::message_length(p, table)
 }
 
-// The last index that carries a message, for messages of s bits; 0 where there are none.
-fn last_carrying(p: Profile, s: usize) -> usize
-    requires { ⌜ InRange p × (s ≡ statedLength p) × (s < 64) ⌝ }
-    ensures { λ r. ⌜ r ≡ lastCarrying p ⌝ }
+// The last index that carries a message of s bits; 0 where s is 0, for then there is none.
+fn last_carrying(s: usize) -> usize
+    requires { ⌜ s < 64 ⌝ }
+    ensures { λ r. ⌜ r ≡ lastCarrying s ⌝ }
 {
     if s == 0 {
         return 0;
@@ -81,7 +81,7 @@ fn put_message(last: usize, i: usize, out: &mut [u8], at: usize) -> usize
 
 // Puts the line of an index.
 fn put_word(p: Profile, table: &[u64], last: usize, i: usize, out: &mut [u8], at: usize) -> usize
-    requires { ⌜ InRange p × Belongs (p .q) (p .x) (p .m) (now table) × (last ≡ lastCarrying p) × (i < wordCount p) × Fits (now out) at (wordLine p i) ⌝ }
+    requires { ⌜ InRange p × Belongs (p .q) (p .x) (p .m) (now table) × (last ≡ lastCarrying (statedLength p)) × (i < wordCount p) × Fits (now out) at (wordLine p i) ⌝ }
     ensures { λ r. ⌜ Put (now (out .entry)) at (wordLine p i) (now (out .exit)) r ⌝ }
 {
     let index = index_of(i);
@@ -99,7 +99,7 @@ fn put_word(p: Profile, table: &[u64], last: usize, i: usize, out: &mut [u8], at
 
 // Puts the lines of the first n indices.
 fn put_words(p: Profile, table: &[u64], last: usize, n: usize, out: &mut [u8], at: usize) -> usize
-    requires { ⌜ InRange p × Belongs (p .q) (p .x) (p .m) (now table) × (last ≡ lastCarrying p) × (n ≤ wordCount p) × Fits (now out) at (wordLines p n) ⌝ }
+    requires { ⌜ InRange p × Belongs (p .q) (p .x) (p .m) (now table) × (last ≡ lastCarrying (statedLength p)) × (n ≤ wordCount p) × Fits (now out) at (wordLines p n) ⌝ }
     ensures { λ r. ⌜ Put (now (out .entry)) at (wordLines p n) (now (out .exit)) r ⌝ }
 {
     let mut next = at;
@@ -118,7 +118,7 @@ fn put_code(p: Profile, table: &[u64], n: usize, out: &mut [u8]) -> usize
 {
     let s = stated_length(p, table);
     let next = put_header(p, n, s, out);
-    put_words(p, table, last_carrying(p, s), n, out, next)
+    put_words(p, table, last_carrying(s), n, out, next)
 }
 
 // There are more words than are listed.

@@ -1,4 +1,4 @@
--- Laws of a text that is put part by part.
+-- Laws of a text that is put into a lent list part by part.
 use mathlib.Core.Path.{_≡_}
 use mathlib.Core.List.{List, [], _∷_, _++_}
 use Prim.Native.Nat.{ℕ}

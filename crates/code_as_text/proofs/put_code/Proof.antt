@@ -1,8 +1,10 @@
 -- `code_as_text::put_code` meets its contract: the header is put, and the lines of all words behind it.
+use mathlib.Core.Path.{ap, _∙_}
 use native.Mathlib.Nat.{le-of-eq}
 use borrow.Author.Needs.{needs}
+use Rattle.code_as_text.specs.Printed.{lastCarrying}
 use Rattle.code_as_text.specs.StatedLaws.{small-length}
-use Rattle.code_as_text.specs.LineLaws.{header-fits, lines-fit, code-put}
+use Rattle.code_as_text.specs.ListedLaws.{header-fits, lines-fit, code-put}
 use Rattle.code_as_text.proofs.put_code.Statement.{statement}
 use Rattle.code_as_text.proofs.put_code.Tie as tie
 
@@ -20,7 +22,7 @@ last-carrying-requires c κs =
     let stated = c .before .before .before .before in
     let pre = stated .before .before .before .pre in
     let said = stated .stated-length .ensures in
-    (pre .0, said, rw said (small-length _ (rw (pre .2) at (pre .3))))
+    rw said (small-length _ (rw (pre .2) at (pre .3)))
 
 put-words-requires : tie.Need-put-words-requires
 put-words-requires c κs =
@@ -28,7 +30,8 @@ put-words-requires c κs =
     let start = front .before .before .before .before .before in
     let pre = start .pre in
     let room = lines-fit _ (pre .2) (pre .0) (pre .3) (start .args .out .now) (pre .4) (front .put-header .ensures) in
-    (pre .0, pre .1, c .before .last-carrying .ensures, le-of-eq (pre .2), room)
+    let last = c .before .last-carrying .ensures ∙ ap lastCarrying (front .before .before .stated-length .ensures) in
+    (pre .0, pre .1, last, le-of-eq (pre .2), room)
 
 same-length : tie.Need-same-length
 same-length c = search needs

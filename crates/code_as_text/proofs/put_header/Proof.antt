@@ -5,7 +5,7 @@ use lib.ListN.{drop}
 use borrow.Author.Needs.{needs}
 use Rattle.code_as_text.specs.Printed.{header}
 use Rattle.text.specs.PartLaws.{Begun, none-put, part-fits, part-put, all-put}
-use Rattle.code_as_text.specs.LineLaws.{headerParts, header-parts}
+use Rattle.code_as_text.specs.ListedLaws.{headerParts, header-parts}
 use Rattle.code_as_text.proofs.put_header.Statement.{statement}
 use Rattle.code_as_text.proofs.put_header.Tie as tie
 

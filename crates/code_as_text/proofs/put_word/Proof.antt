@@ -12,7 +12,7 @@ use Rattle.word_of_index.specs.SpellingLaws.{whole-index}
 use Rattle.code_as_text.specs.Printed.{wordLine}
 use Rattle.code_as_text.specs.CodeLaws.{cells-spelt}
 use Rattle.text.specs.PartLaws.{Begun, none-put, part-fits, part-put, all-put}
-use Rattle.code_as_text.specs.LineLaws.{lineParts, line-parts}
+use Rattle.code_as_text.specs.ListedLaws.{lineParts, line-parts}
 use Rattle.code_as_text.proofs.put_word.Statement.{statement}
 use Rattle.code_as_text.proofs.put_word.Tie as tie
 

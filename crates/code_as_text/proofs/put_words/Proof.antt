@@ -6,7 +6,7 @@ use borrow.Author.Needs.{needs}
 use Rattle.text.specs.Put.{Put}
 use Rattle.text.specs.PutLaws.{length-put}
 use Rattle.code_as_text.specs.Printed.{wordLines}
-use Rattle.code_as_text.specs.LineLaws.{no-lines, line-fits, line-put}
+use Rattle.code_as_text.specs.ListedLaws.{no-lines, line-fits, line-put}
 use Rattle.code_as_text.proofs.put_words.Statement.{statement}
 use Rattle.code_as_text.proofs.put_words.Tie as tie
 
