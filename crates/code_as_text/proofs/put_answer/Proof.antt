@@ -28,14 +28,17 @@ none c = answer-refused _ (c .before .before .refused-profile .ensures) (c .if1 
 one : (c : tie.After-put) → Done 1 (c .before .before .before) (c .put .last .0) (c .put .result)
 one c = part-put (none (c .before .before .before)) (c .put .ensures)
 
-two : (c : tie.After-put-decimal) → Done 2 (c .before .before .before .before .before .before .before .before) (c .put-decimal .last .0) (c .put-decimal .result)
+two : (c : tie.After-put-decimal)
+    → Done 2 (c .before .before .before .before .before .before .before .before) (c .put-decimal .last .0) (c .put-decimal .result)
 two c = part-put (one (c .before .before .before .before .before)) (c .put-decimal .ensures)
 
--- A profile that is not refused lies in range, and the table that is built belongs to it.
+-- A profile that is not refused lies in range, ..
 range : (c : tie.Else1) → InRange (c .before .before .before .before .args .p)
 range c = profile-in-range _ (c .before .before .refused-profile .ensures) (c .if1 .left)
 
-belongs : (c : tie.After-build) → let p = c .before .before .before .before .before .before .args .p in Belongs (p .q) (p .x) (p .m) (c .build .last .1 .0)
+-- .. and the table that is built belongs to it.
+belongs : (c : tie.After-build)
+    → let p = c .before .before .before .before .before .before .args .p in Belongs (p .q) (p .x) (p .m) (c .build .last .1 .0)
 belongs c =
     let inside = range (c .before .before) in
     let most = inside .length .most in

@@ -16,7 +16,7 @@ Done k s now next = let a = s .args in Begun (a .out .now) 0 (header (a .p)) now
 none : (s : tie.Start) → Done 0 s (s .args .out .now) 0
 none s = none-put _ (header-parts _ (s .pre .0) (s .pre .1)) (s .pre .2)
 
--- The start of the call from each put on, and how many parts are put then.
+-- The start of the call from each put on, and that so many parts are put then.
 abbrev start-1 : tie.After-put-profile → tie.Start
 start-1 c = c .before .before .before
 

@@ -16,13 +16,15 @@ use Rattle.code_as_text.specs.ListedLaws.{lineParts, line-parts}
 use Rattle.code_as_text.proofs.put_word.Statement.{statement}
 use Rattle.code_as_text.proofs.put_word.Tie as tie
 
--- The first m cells are the word, once it is spelt.
+-- The start of the call from where the word is spelt.
 abbrev start : tie.After-spell → tie.Start
 start c = c .before .before .before .before .before .before .before
 
+-- The first m cells then, ..
 abbrev cells : tie.After-spell → List ℕ
 cells c = take (start c .args .p .m) (c .spell .last .1 .1 .1 .0)
 
+-- .. which are the word.
 spelt : (c : tie.After-spell) → let a = start c .args in cells c ≡ word (a .p .q) (a .p .x) (a .p .m) (a .i)
 spelt c =
     let index = c .before .before .before .before .index-of .ensures in
@@ -30,12 +32,13 @@ spelt c =
 
 -- So many parts of the line are put.
 abbrev Done : ℕ → tie.After-spell → List ℕ → ℕ → Type 0
-Done k c now next = let a = start c .args in Begun (a .out .now) (a .at) (wordLine (a .p) (a .i)) now next (drop k (lineParts (a .i) (cells c) (a .last)))
+Done k c now next =
+    let a = start c .args in Begun (a .out .now) (a .at) (wordLine (a .p) (a .i)) now next (drop k (lineParts (a .i) (cells c) (a .last)))
 
 none : (c : tie.After-spell) → let a = start c .args in Done 0 c (a .out .now) (a .at)
 none c = let pre = start c .pre in none-put _ (line-parts _ _ (pre .2) (spelt c)) (pre .4)
 
--- The spelt word from each put on, and how many parts are put then.
+-- The spelt word from each put on, and that so many parts are put then.
 abbrev spelt-1 : tie.After-put-decimal → tie.After-spell
 spelt-1 c = c .before .before .before .before
 

@@ -22,9 +22,10 @@ loop-holds c = let s = c .before .before in (omega arith, no-lines _ (s .args .o
 put-word-requires : tie.Need-put-word-requires Inv-loop μ-loop
 put-word-requires c κs =
     let turn = c .before in
-    let pre = turn .before .before .before .before .pre in
+    let start = turn .before .before .before .before in
+    let pre = start .pre in
     let l = turn .before .loop in
-    (pre .0, pre .1, pre .2, omega arith, line-fits _ (l .i) (l .inv .1) _ (turn .loop-test .taken) (pre .4))
+    (pre .0, pre .1, pre .2, omega arith, line-fits _ (l .i) (l .inv .1) (start .args .n) (omega arith) (pre .4))
 
 add-i : tie.Need-add-i Inv-loop μ-loop
 add-i c = search needs
