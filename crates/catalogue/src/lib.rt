@@ -19,6 +19,7 @@ use replies::Reply;
 mod rows;
 
 // A published profile: the reply, and q, x, m and the message length s, which are 0 where the call is refused.
+#[repr(C)]
 pub struct Published {
     pub reply: Reply,
     pub q: usize,
@@ -28,6 +29,7 @@ pub struct Published {
 }
 
 // The rate of n words: the reply, and bits and cells, which are 0 where the call is refused.
+#[repr(C)]
 pub struct Rated {
     pub reply: Reply,
     pub bits: usize,

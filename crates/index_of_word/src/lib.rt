@@ -9,6 +9,7 @@ use replies::Reply;
 mod stretch;
 
 // The answer: the reply, and the index, which is 0 where the call is refused.
+#[repr(C)]
 pub struct Indexed {
     pub reply: Reply,
     pub index: Index,

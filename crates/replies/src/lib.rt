@@ -6,6 +6,7 @@ ghost use Rattle.replies.specs.Replies.{done, refused, refusedIf, movedB
 
 // A profile: q levels, word length m, reach x. Any numbers may be handed in; what is out of range is
 // refused.
+#[repr(C)]
 pub struct Profile {
     pub q: usize,
     pub m: usize,
@@ -13,12 +14,14 @@ pub struct Profile {
 }
 
 // A reply: its number, and its place where the number has one.
+#[repr(C)]
 pub struct Reply {
     pub number: u8,
     pub place: usize,
 }
 
 // The answer of a call that writes: its reply, and how many cells, bits or limbs it wrote.
+#[repr(C)]
 pub struct Written {
     pub reply: Reply,
     pub count: usize,

@@ -1,0 +1,23 @@
+//! The profile.
+
+/// A profile: q levels, 2 to 32; word length m, 1 to 128; reach x, 1 to 8.
+///
+/// Any numbers may be handed in; a call refuses what is out of range.
+///
+/// ```
+/// use remizutogya::{Error, Profile, join_streams};
+///
+/// let refused = join_streams(Profile { q: 33, m: 5, x: 1 }, &[], &[], &mut []).unwrap_err();
+/// assert_eq!(refused.number(), Error::LEVELS);
+/// ```
+#[repr(C)]
+#[derive(Clone, Copy, Debug, PartialEq, Eq, Hash)]
+pub struct Profile {
+    /// The levels of a cell; top is level q - 1.
+    pub q: usize,
+    /// The cells of a word.
+    pub m: usize,
+    /// The reach: the most cells below top between the tops of a forbidden pattern, and the cells
+    /// of a bridge.
+    pub x: usize,
+}
