@@ -1,7 +1,8 @@
-/* The stack of each call, measured: the call is made on a thread whose stack was filled with one byte before, and what no longer holds that byte
-   was used. What a thread uses that makes no call is taken off. The inputs are the longest ones: 256 words, words of 128 cells, 65,536
-   cells for the finder, and of the profiles below the one that uses most. */
-
+/* The stack that each call takes, measured: the call is made on a thread whose stack was filled with one byte before, and
+ * what no longer holds that byte was used; what a thread uses that makes no call is taken off. The inputs are the longest
+ * ones, of the profiles below, as they are and with the last cell damaged; what takes most counts. Ends with 1 if a call takes
+ * more than the header says. */
+#define _POSIX_C_SOURCE 200809L
 #include "remizutogya.h"
 
 #include <pthread.h>
@@ -9,41 +10,59 @@
 #include <stdlib.h>
 #include <string.h>
 
-enum { STACK = 1 << 20, FILL = 0xa5, ROWS = 129, WORDS = 256, CELLS = 256 * 136, RUN = 65536, TEXT = 262144 };
+#define STACK ((size_t)1 << 20)
+#define PAGE 4096
+#define FILL 0xa5
+#define MOST (128 * 1024)
+
+#define TABLE_ROOM REMI_TABLE_LIMBS(REMI_MOST_LENGTH)
+#define CELL_ROOM REMI_STREAM_CELLS(REMI_MOST_LENGTH, REMI_MOST_REACH, REMI_MOST_WORDS)
+#define BYTE_ROOM (REMI_MOST_WORDS * REMI_LIMBS * 8)
 
 static const remi_profile profiles[] = {{2, 128, 1}, {4, 97, 1}, {4, 128, 8}, {32, 117, 1}, {32, 128, 8}};
 
+/* What the calls are handed. */
 static remi_profile p;
-static uint64_t table[REMI_LIMBS * ROWS], table_out[REMI_LIMBS * ROWS];
-static uint8_t bytes[WORDS * 80], cells[CELLS], out[CELLS], run[RUN], text[TEXT];
-static size_t bits, stream, half;
-static uint8_t *stack;
+static uint64_t table[TABLE_ROOM], rows[TABLE_ROOM];
+static uint8_t bytes[BYTE_ROOM], cells[CELL_ROOM], out[CELL_ROOM];
+static uint8_t run[REMI_MOST_FOUND_CELLS], text[REMI_LISTING_BYTES];
+static size_t bits, whole, half;
 
 static void no_call(void) {}
-static void build_table(void) { remi_build_table(p, table_out, REMI_LIMBS * ROWS); }
-static void shipped_table(void) { remi_shipped_table(128, table_out, REMI_LIMBS * ROWS); }
-static void index_of_word(void) { remi_index_of_word(p, table, REMI_LIMBS * ROWS, cells, p.m); }
-static void word_of_index(void) { remi_word_of_index(p, table, REMI_LIMBS * ROWS, (remi_index){{12345}}, out, CELLS); }
-static void write_stream(void) { remi_write_stream(p, table, REMI_LIMBS * ROWS, bytes, sizeof bytes, bits, out, CELLS); }
-static void read_stream(void) { remi_read_stream(p, table, REMI_LIMBS * ROWS, cells, stream, out, CELLS); }
-static void join_streams(void) { remi_join_streams(p, cells, half, cells, half, out, CELLS); }
-static void turn_stream(void) { remi_turn_stream(p, cells, stream, out, CELLS); }
-static void find_pattern(void) { remi_find_pattern(p.q, p.x, run, RUN); }
-static void published_profile(void) { remi_published_profile(39); }
-static void rate_of_words(void) { remi_rate_of_words(p, table, REMI_LIMBS * ROWS, WORDS); }
-static void list_code(void) { remi_list_code((const uint8_t *)"4 6 1\n", 6, text, TEXT); }
+static void build_table(void) { remi_build_table(p, rows, TABLE_ROOM); }
+static void shipped_table(void) { remi_shipped_table(REMI_MOST_LENGTH, rows, TABLE_ROOM); }
+static void index_of_word(void) { remi_index_of_word(p, table, TABLE_ROOM, cells, p.m); }
+static void word_of_index(void) { remi_word_of_index(p, table, TABLE_ROOM, (remi_index){{12345}}, out, CELL_ROOM); }
+static void write_stream(void) { remi_write_stream(p, table, TABLE_ROOM, bytes, BYTE_ROOM, bits, out, CELL_ROOM); }
+static void read_stream(void) { remi_read_stream(p, table, TABLE_ROOM, cells, whole, out, CELL_ROOM); }
+static void join_streams(void) { remi_join_streams(p, cells, half, cells + whole - half, half, out, CELL_ROOM); }
+static void turn_stream(void) { remi_turn_stream(p, cells, whole, out, CELL_ROOM); }
+static void find_pattern(void) { remi_find_pattern(p.q, p.x, run, REMI_MOST_FOUND_CELLS); }
+static void published_profile(void) { remi_published_profile(REMI_PUBLISHED_ROWS - 1); }
+static void rate_of_words(void) { remi_rate_of_words(p, table, TABLE_ROOM, REMI_MOST_WORDS); }
+static void list_code(void) { remi_list_code((const uint8_t *)"4 6 1\n", 6, text, REMI_LISTING_BYTES); }
 
 static const struct {
     const char *name;
-    void (*make)(void);
+    void (*call)(void);
 } calls[] = {
-    {"remi_build_table", build_table},   {"remi_shipped_table", shipped_table},
+    {"remi_build_table", build_table},     {"remi_shipped_table", shipped_table},
     {"remi_index_of_word", index_of_word}, {"remi_word_of_index", word_of_index},
-    {"remi_write_stream", write_stream}, {"remi_read_stream", read_stream},
-    {"remi_join_streams", join_streams}, {"remi_turn_stream", turn_stream},
-    {"remi_find_pattern", find_pattern}, {"remi_published_profile", published_profile},
+    {"remi_write_stream", write_stream},   {"remi_read_stream", read_stream},
+    {"remi_join_streams", join_streams},   {"remi_turn_stream", turn_stream},
+    {"remi_find_pattern", find_pattern},   {"remi_published_profile", published_profile},
     {"remi_rate_of_words", rate_of_words}, {"remi_list_code", list_code},
 };
+#define CALLS (sizeof calls / sizeof *calls)
+
+/* Ends the program where something that has to be right is not. */
+static void must(int right, const char *what)
+{
+    if (!right) {
+        printf("%s\n", what);
+        exit(1);
+    }
+}
 
 static void *on_thread(void *call)
 {
@@ -51,52 +70,60 @@ static void *on_thread(void *call)
     return NULL;
 }
 
-/* The bytes of stack that a thread uses which makes the call; 0 where no thread can be had. */
-static size_t used(void (*call)(void))
+/* The bytes of stack that a thread uses which makes the call. */
+static size_t used(uint8_t *stack, void (*call)(void))
 {
     pthread_attr_t attributes;
     pthread_t thread;
-    size_t free_bytes = 0;
+    size_t left = 0;
 
     memset(stack, FILL, STACK);
-    if (pthread_attr_init(&attributes) || pthread_attr_setstack(&attributes, stack, STACK) ||
-        pthread_create(&thread, &attributes, on_thread, &call) || pthread_join(thread, NULL))
-        return 0;
+    must(pthread_attr_init(&attributes) == 0 && pthread_attr_setstack(&attributes, stack, STACK) == 0 &&
+             pthread_create(&thread, &attributes, on_thread, &call) == 0 && pthread_join(thread, NULL) == 0,
+         "no thread can be had");
     pthread_attr_destroy(&attributes);
-    while (free_bytes < STACK && stack[free_bytes] == FILL)
-        free_bytes++;
-    return STACK - free_bytes;
+    while (left < STACK && stack[left] == FILL)
+        left++;
+    return STACK - left;
 }
 
-/* Makes table, message bits and stream of a profile; 0 where a call is refused. */
-static int made_ready(remi_profile profile)
+/* Table, message bits and streams of a profile. */
+static void make_ready(remi_profile profile)
 {
     p = profile;
-    if (remi_build_table(p, table, REMI_LIMBS * ROWS).reply.number != REMI_DONE)
-        return 0;
-    bits = remi_rate_of_words(p, table, REMI_LIMBS * ROWS, WORDS).bits;
-    stream = remi_write_stream(p, table, REMI_LIMBS * ROWS, bytes, sizeof bytes, bits, cells, CELLS).count;
-    half = (WORDS / 2) * (p.m + p.x) - p.x;
-    return stream != 0;
+    must(remi_build_table(p, table, TABLE_ROOM).reply.number == REMI_DONE, "no table");
+    bits = remi_rate_of_words(p, table, TABLE_ROOM, REMI_MOST_WORDS).bits;
+    whole = remi_write_stream(p, table, TABLE_ROOM, bytes, BYTE_ROOM, bits, cells, CELL_ROOM).count;
+    half = REMI_STREAM_CELLS(p.m, p.x, REMI_MOST_WORDS / 2);
+    must(whole == REMI_STREAM_CELLS(p.m, p.x, REMI_MOST_WORDS), "no stream");
+}
+
+/* Raises what each call takes at most to what it takes now. */
+static void measure(uint8_t *stack, size_t most[CALLS])
+{
+    for (size_t c = 0; c < CALLS; c++) {
+        size_t taken = used(stack, calls[c].call) - used(stack, no_call);
+        most[c] = taken > most[c] ? taken : most[c];
+    }
 }
 
 int main(void)
 {
-    stack = aligned_alloc(4096, STACK);
-    if (stack == NULL)
-        return 1;
-    for (size_t i = 0; i < sizeof bytes; i++)
-        bytes[i] = (uint8_t)(i * 151 + i / 7);
-    for (size_t c = 0; c < sizeof calls / sizeof *calls; c++) {
-        size_t most = 0;
-        for (size_t k = 0; k < sizeof profiles / sizeof *profiles; k++) {
-            if (!made_ready(profiles[k]))
-                return 1;
-            size_t with = used(calls[c].make), without = used(no_call);
-            if (with - without > most)
-                most = with - without;
-        }
-        printf("%-24s %6zu bytes\n", calls[c].name, most);
+    uint8_t *stack = aligned_alloc(PAGE, STACK);
+    size_t most[CALLS] = {0};
+
+    must(stack != NULL, "no memory");
+    for (size_t i = 0; i < BYTE_ROOM; i++)
+        bytes[i] = (uint8_t)(i * i / 7 + i);
+    for (size_t k = 0; k < sizeof profiles / sizeof *profiles; k++) {
+        make_ready(profiles[k]);
+        measure(stack, most);
+        cells[whole - 1] = UINT8_MAX;
+        measure(stack, most);
+    }
+    for (size_t c = 0; c < CALLS; c++) {
+        printf("%-24s %6zu bytes of stack\n", calls[c].name, most[c]);
+        must(most[c] <= MOST, "more than the header says");
     }
     free(stack);
     return 0;
