@@ -1,5 +1,6 @@
 -- Laws of reading a stream: what each test lets through, and what is written where nothing is refused.
 use mathlib.Core.Path.{_≡_, refl, _∙_}
+use mathlib.Core.Bool.{Bool, true}
 use mathlib.Core.List.{List, _++_}
 use Prim.Native.Nat.{ℕ, _*_, _≤_}
 use native.Mathlib.Nat.{le-of-lt, mul-le-mul}
@@ -14,7 +15,7 @@ use Rattle.catalogue.specs.LengthLaws.{lengthOf, length-below, CarriesMessages}
 use Rattle.catalogue.specs.Rating.{carryingRefusal}
 use Rattle.bits.specs.Bits.{bytesFor, withBits}
 use Rattle.bits.specs.WithLaws.{length-packedInto, with-bits-front}
-use Rattle.streams.specs.Streams.{wordsIn, fitRefusal}
+use Rattle.streams.specs.Streams.{wordsIn, fitRefusal, streamRefusal}
 use Rattle.streams.specs.FitLaws.{Fits, not-refused-fits}
 use Rattle.read_stream.specs.Reading.{bitsIn, readRefusal, bitsRead, readingStream}
 use Rattle.read_stream.specs.LimitLaws.{limitOf, limit-in-front}
@@ -33,9 +34,10 @@ pub bits-few : {p : Profile} {table : List ℕ} {cells n s : ℕ} → CarriesMes
 bits-few ready fits e f = rw (e, f) (mul-le-mul (fits .few) (le-of-lt (length-below (ready .inRange) (ready .carries))))
 
 -- A stream that fits may be tested by a limit that was spelt.
-pub testable : {p : Profile} {table : List ℕ} (cells rest : List ℕ) {limit : List ℕ} → CarriesMessages p table → Fits p (length cells) → limit ≡ limitOf p ++ rest
-    → Testable p (take (p .m) limit) cells
-testable cells rest ready fits e = record { range = ready .inRange; limits = limit-in-front rest ready e; exact = fits .exact }
+pub testable : {p : Profile} {table : List ℕ} {clean : Bool} (cells rest : List ℕ) {limit : List ℕ} → CarriesMessages p table → Fits p (length cells)
+    → limit ≡ limitOf p ++ rest → (clean ≡ true → streamRefusal p cells ≡ done) → Testable p (take (p .m) limit) clean cells
+testable cells rest ready fits e passed =
+    record { range = ready .inRange; limits = limit-in-front rest ready e; exact = fits .exact; passed = passed }
 
 -- What is known where nothing is refused.
 pub record Accepted (p : Profile) (cells out : List ℕ) : Type 0 where

@@ -15,15 +15,17 @@ mod messages;
 mod silent;
 mod tests;
 
-// Numbers 10 to 16. The word of the index 2^s, with which every word is compared, is spelt once.
+// Numbers 10 to 16. The word of the index 2^s, with which every word is compared, is spelt once. A
+// stream in order is clean: it has nothing of 10, 11, 13.
 fn refused_words(p: Profile, table: &[u64], s: usize, cells: &[u8]) -> Reply
     requires { ⌜ CarriesMessages p (now table) × (s ≡ lengthOf p) × Fits p (length (now cells)) ⌝ }
     ensures { λ r. ⌜ r ≡ readRefusalFrom p 0 (now (cells .entry)) ⌝ }
 {
     let mut limit = [0u8; 128];
     silent::spell_limit(p, table, s, &mut limit);
+    let clean = streams::in_order(p, cells);
     let m = p.m;
-    tests::refused_parts(p, &limit[..m], cells, 0)
+    tests::refused_parts(p, &limit[..m], clean, cells, 0)
 }
 
 // Number 7, number 9 for an output of `lent` bytes, and numbers 10 to 16.

@@ -1,9 +1,9 @@
 -- Laws of bridges: the one level of their cells, the place of a wrong one, a part that has none, and a bridge as it is written.
-use mathlib.Core.Path.{_≡_, refl, _∙_}
+use mathlib.Core.Path.{_≡_, refl}
 use mathlib.Core.Bool.{Bool, true, false, cond, not, _&&_}
 use mathlib.Core.List.{List, [], _∷_, _++_, append-assoc}
 use Prim.Native.Nat.{ℕ, zero, suc, _+_, _-_, _≤_, _<_}
-use native.Mathlib.Nat.{add-comm}
+use native.Mathlib.Nat.{add-comm, add-assoc}
 use native.Mathlib.Numerals.{add-one}
 use native.Mathlib.Omega.{arith}
 use lib.Dec.{eqb}
@@ -53,48 +53,66 @@ last-of n cells some inside =
     let e : suc (n - 1) ≡ n = omega arith in
     rw e at (last-to (n - 1) cells (omega arith))
 
--- The level of the bridge behind the first word of a part, by the cells before and after it.
-abbrev pub levelBehind : Profile → List ℕ → ℕ
-levelBehind p part = bridgeLevel p (getD part (p .m - 1) 0) (getD part (p .m + p .x) 0)
+-- The level of the bridge at a place, by the cells before and after it.
+abbrev pub levelAt : Profile → List ℕ → ℕ → ℕ
+levelAt p cells at = bridgeLevel p (getD cells (at - 1) 0) (getD cells (at + p .x) 0)
 
 -- The first i cells from a place on are all of one level.
 abbrev pub Levelled : List ℕ → ℕ → ℕ → ℕ → Type 0
 Levelled cells place level i = (k : ℕ) → k < i → getD cells (place + k) 0 ≡ level
+
+-- Of the bridge at a place the first r cells are of its level, and the next is not, where there is one.
+pub record RightCells (p : Profile) (cells : List ℕ) (at r : ℕ) : Type 0 where
+  pub most : r ≤ p .x
+  pub right : Levelled cells at (levelAt p cells at) r
+  pub wrong : r < p .x → getD cells (at + r) 0 ≡ levelAt p cells at → ⊥
+
+-- A bridge in the cells, seen in the part from the word before it on.
+pub right-from : (p : Profile) (cells : List ℕ) (start r : ℕ) → 0 < p .m → RightCells p cells (start + p .m) r → RightCells p (drop start cells) (p .m) r
+right-from p cells start r some c =
+    let back : start + (p .m - 1) ≡ start + p .m - 1 = omega arith in
+    let level : levelAt p (drop start cells) (p .m) ≡ levelAt p cells (start + p .m) =
+    rw (getD-drop start cells (p .m - 1) 0, back, getD-drop start cells (stride p) 0, add-assoc start (p .m) (p .x)) in
+    record {
+      most = c .most;
+      right = λ k l. rw (level, getD-drop start cells (p .m + k) 0) (rw (add-assoc start (p .m) k) at (c .right k l));
+      wrong = λ l e. c .wrong l (rw (level, getD-drop start cells (p .m + r) 0, ← (add-assoc start (p .m) r)) at e);
+    }
 
 module _ (p : Profile) (part : List ℕ) (range : InRange p) (more : stride p < length part) where
   -- A cell of the bridge is wrong where it is not of that level.
   wrong : ℕ → Bool
   wrong i = not (eqb (getD (bridgeIn p part) i 0) (getD (rightBridge p part) i 0))
 
-  wrong-cell : (i : ℕ) → i < p .x → wrong i ≡ not (eqb (getD part (p .m + i) 0) (levelBehind p part))
+  wrong-cell : (i : ℕ) → i < p .x → wrong i ≡ not (eqb (getD part (p .m + i) 0) (levelAt p part (p .m)))
   unfolding wrong
   wrong-cell i inside =
       let last = last-of (p .m) part (range .length .least) (omega arith) in
       let levels = bridge-levels p (lastCell (take (p .m) part)) (firstCell (drop (stride p) part)) in
       rw (getD-take (p .x) (drop (p .m) part) i 0, getD-drop, levels, getD-replicate, last, first-from)
 
-  none-before : (i : ℕ) {level : ℕ} → level ≡ levelBehind p part → Levelled part (p .m) level i → i ≤ p .x → Nowhere wrong 0 i
-  none-before i e right most k l h = rw (wrong-cell k (omega arith), eq-eqb _ _ (right k h ∙ e))
+  none-before : (r : ℕ) → RightCells p part (p .m) r → Nowhere wrong 0 r
+  none-before r c k l h = rw (wrong-cell k (omega (arith, c .most)), eq-eqb _ _ (c .right k h))
 
   bridge-length : length (bridgeIn p part) ≡ p .x
   bridge-length = length-take-le (p .x) (drop (p .m) part) (omega (arith, length-drop (p .m) part))
 
   -- The first cell of another level is refused at its place, ..
-  pub first-wrong : (i : ℕ) {level : ℕ} → level ≡ levelBehind p part → Levelled part (p .m) level i → i < p .x
-      → (getD part (p .m + i) 0 ≡ level → ⊥) → refused 13 (p .m + i) ≡ bridgeRefusal p part
+  pub first-wrong : (r : ℕ) → RightCells p part (p .m) r → r < p .x → refused 13 (p .m + r) ≡ bridgeRefusal p part
   unfolding bridgeRefusal movedBy wrong
-  first-wrong i e right inside n =
-      let here : wrong i ≡ true = rw (wrong-cell i inside, ne-eqb _ _ (rw e at n)) in
-      let first = first-refused wrong (length (bridgeIn p part)) 13 i (none-before i e right (omega arith)) here (rw bridge-length inside) in
-      rw (first, add-comm i (p .m))
+  first-wrong r c inside =
+      let here : wrong r ≡ true = rw (wrong-cell r inside, ne-eqb _ _ (c .wrong inside)) in
+      let first = first-refused wrong (length (bridgeIn p part)) 13 r (none-before r c) here (rw bridge-length inside) in
+      rw (first, add-comm r (p .m))
 
   -- .. and a bridge with no such cell is not refused.
-  pub none-wrong : {level : ℕ} → level ≡ levelBehind p part → Levelled part (p .m) level (p .x) → done ≡ bridgeRefusal p part
+  pub none-wrong : (r : ℕ) → RightCells p part (p .m) r → p .x ≤ r → done ≡ bridgeRefusal p part
   unfolding bridgeRefusal movedBy wrong
-  none-wrong e right = rw (none-refused wrong (length (bridgeIn p part)) 13 (rw bridge-length (none-before (p .x) e right (omega arith))))
+  none-wrong r c all =
+      rw (none-refused wrong (length (bridgeIn p part)) 13 (rw bridge-length (λ k l h. none-before r c k l (omega arith))))
 
 -- A part that is one word alone has no bridge.
-no-bridge : (p : Profile) (part : List ℕ) → length part ≤ p .m → bridgeRefusal p part ≡ done
+pub no-bridge : (p : Profile) (part : List ℕ) → length part ≤ p .m → bridgeRefusal p part ≡ done
 unfolding bridgeRefusal refusedAtFirst movedBy
 no-bridge p part short = rw (drop-of-length-le part short, take-nil)
 
@@ -124,7 +142,7 @@ bridge-more before at x level i o inside room =
 
 -- .. and all of it.
 pub bridge-written : (p : Profile) (before : List ℕ) (at : ℕ) {level i : ℕ} {out : List ℕ}
-    → level ≡ bridgeLevel p (getD before (at - 1) 0) (getD before (at + p .x) 0) → i ≡ p .x → out ≡ paste before at (replicate (p .x) level) i
+    → level ≡ levelAt p before at → i ≡ p .x → out ≡ paste before at (replicate (p .x) level) i
     → out ≡ take at before ++ (bridge (patternsOf p) (getD before (at - 1) 0) (getD before (at + p .x) 0) ++ drop (at + p .x) before)
 bridge-written p before at {level} e all o =
     let whole = take-all (p .x) (replicate (p .x) level) (omega (arith, length-replicate (p .x) level)) in

@@ -8,5 +8,6 @@ pub mod BridgeLaws
 pub mod BesideLaws
 pub mod EachLaws
 pub mod LowestFirst
+pub mod OrderLaws
 pub mod AcceptedLaws
 pub mod JoinedLaws

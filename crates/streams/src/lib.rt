@@ -1,14 +1,17 @@
 // The tests that calls on streams share, and the bridge between two words.
 ghost use mathlib.Core.Path.{_≡_};
+ghost use mathlib.Core.Bool.{true};
 ghost use mathlib.Core.List.{_++_};
 ghost use Prim.Native.Nat.{_+_, _-_, _^_, _<_};
 ghost use lib.ListN.{length, take, drop, getD};
+ghost use Rattle.replies.specs.Replies.{done};
 ghost use Rattle.replies.specs.ReplyLaws.{InRange};
 ghost use Rattle.patterns.specs.Stream.{bridge};
 ghost use Rattle.streams.specs.Streams.{patternsOf, stride, streamLength, wordsIn, fitRefusal, bothFitRefusal, bridgeRefusal, partRefusal, throughout, streamRefusal};
 ghost use Rattle.streams.specs.FitLaws.{Fits};
 ghost use Rattle.streams.specs.UnfitLaws.{unfit};
-ghost use Rattle.streams.specs.BridgeLaws.{bridgeLevel};
+ghost use Rattle.streams.specs.BridgeLaws.{bridgeLevel, RightCells};
+ghost use Rattle.streams.specs.OrderLaws.{RightBridges};
 use replies::Profile;
 use replies::Reply;
 
@@ -72,20 +75,32 @@ fn bridge_level(p: Profile, before: u8, after: u8) -> u8
     0
 }
 
+// How many cells of the bridge at a place are right before the first wrong one: all x where none is.
+fn right_cells(p: Profile, cells: &[u8], at: usize) -> usize
+    requires { ⌜ InRange p × (0 < at) × (at + p .x < length (now cells)) ⌝ }
+    ensures { λ r. ⌜ RightCells p (now (cells .entry)) at r ⌝ }
+{
+    let x = p.x;
+    let level = bridge_level(p, cells[at - 1], cells[at + x]);
+    let mut i = 0;
+    while i < x {
+        if cells[at + i] != level {
+            return i;
+        }
+        i += 1;
+    }
+    i
+}
+
 // Number 13: the first wrong cell of the bridge behind a word, in a part that goes on behind it.
 fn refused_bridge(p: Profile, part: &[u8]) -> Reply
     requires { ⌜ InRange p × (stride p < length (now part)) ⌝ }
     ensures { λ r. ⌜ r ≡ bridgeRefusal p (now (part .entry)) ⌝ }
 {
     let m = p.m;
-    let x = p.x;
-    let level = bridge_level(p, part[m - 1], part[m + x]);
-    let mut i = 0;
-    while i < x {
-        if part[m + i] != level {
-            return replies::refused_at(replies::BRIDGE, m + i);
-        }
-        i += 1;
+    let right = right_cells(p, part, m);
+    if right < p.x {
+        return replies::refused_at(replies::BRIDGE, m + right);
     }
     replies::done()
 }
@@ -128,11 +143,44 @@ fn refused_parts(p: Profile, part: &[u8], place: usize) -> Reply
     replies::lowest(here, refused_parts(p, &part[next..], place + next))
 }
 
-// Numbers 10, 11, 13 of a stream.
+// Each bridge of a stream is right.
+fn bridges_right(p: Profile, cells: &[u8]) -> bool
+    requires { ⌜ InRange p × Fits p (length (now cells)) ⌝ }
+    ensures { λ r. ⌜ (r ≡ true → RightBridges p (now (cells .entry))) ⌝ }
+{
+    let x = p.x;
+    let next = p.m + x;
+    let mut at = p.m;
+    while at < cells.len() {
+        if right_cells(p, cells, at) < x {
+            return false;
+        }
+        at += next;
+    }
+    true
+}
+
+// A stream is in order: seen as one run, its cells are refused neither 10 nor 11, and each bridge is
+// right. Then 10, 11 and 13 refuse nothing of it.
+pub fn in_order(p: Profile, cells: &[u8]) -> bool
+    requires { ⌜ InRange p × Fits p (length (now cells)) ⌝ }
+    ensures { λ r. ⌜ (r ≡ true → streamRefusal p (now (cells .entry)) ≡ done) ⌝ }
+{
+    let run = cells::refused_cells(p.q, p.x, cells);
+    if run.number != replies::DONE {
+        return false;
+    }
+    bridges_right(p, cells)
+}
+
+// Numbers 10, 11, 13 of a stream: what is not in order is tested word by word.
 pub fn refused_stream(p: Profile, cells: &[u8]) -> Reply
     requires { ⌜ InRange p × Fits p (length (now cells)) ⌝ }
     ensures { λ r. ⌜ r ≡ streamRefusal p (now (cells .entry)) ⌝ }
 {
+    if in_order(p, cells) {
+        return replies::done();
+    }
     refused_parts(p, cells, 0)
 }
 

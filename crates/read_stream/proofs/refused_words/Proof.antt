@@ -14,19 +14,22 @@ slice-aggregate-spell-limit c = search needs
 spell-limit-requires : tie.Need-spell-limit-requires
 spell-limit-requires c κs = search needs
 
+in-order-requires : tie.Need-in-order-requires
+in-order-requires c κs = search needs
+
 array-share-prefix-limit : tie.Need-array-share-prefix-limit
 array-share-prefix-limit c = search needs
 
 slice-aggregate-refused-parts : tie.Need-slice-aggregate-refused-parts
 slice-aggregate-refused-parts c =
-    let spelt = c .before .before in
+    let spelt = c .before .before .before in
     sym (limit-length (limit-in-front _ (spelt .before .before .before .before .pre .0) (spelt .spell-limit .ensures)))
 
 refused-parts-requires : tie.Need-refused-parts-requires
 refused-parts-requires c κs =
-    let spelt = c .before .before in
+    let spelt = c .before .before .before in
     let pre = spelt .before .before .before .before .pre in
-    (testable _ _ (pre .0) (pre .2) (spelt .spell-limit .ensures), omega (arith, few-cells _ _ (pre .0 .inRange) (pre .2)))
+    (testable _ _ (pre .0) (pre .2) (spelt .spell-limit .ensures) (c .before .in-order .ensures), omega (arith, few-cells _ _ (pre .0 .inRange) (pre .2)))
 
 returns : tie.Need-returns
 returns c = search needs
@@ -37,6 +40,7 @@ refused-words-spec =
     (tie.spec
     slice-aggregate-spell-limit
     spell-limit-requires
+    in-order-requires
     array-share-prefix-limit
     slice-aggregate-refused-parts
     refused-parts-requires

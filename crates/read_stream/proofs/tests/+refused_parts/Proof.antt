@@ -21,7 +21,7 @@ use Rattle.read_stream.proofs.tests.+refused_parts.Tie.{close}
 
 -- The cells left.
 abbrev μ-refused-parts : Measures 2 refused-parts-kinds.ps ℕ
-μ-refused-parts κs a = length (a .1 .1 .0 .now)
+μ-refused-parts κs a = length (a .1 .1 .1 .0 .now)
 
 abbrev refused-parts-at : ℕ → In 2 refused-parts-kinds.ps
 refused-parts-at t =
@@ -52,7 +52,7 @@ called t = (
 
 -- What is left behind a word that is not the last.
 rest : (t : ℕ) (c : refused-parts-lts.Else2 (called t) (refused-parts-at t) refused-parts.Post)
-    → let a = c .before .before .before .before .before .before .before .args in Behind (a .p) (a .limit .now) (a .part .now)
+    → let a = c .before .before .before .before .before .before .before .args in Behind (a .p) (a .limit .now) (a .clean) (a .part .now)
 rest t c = behind _ (c .before .before .before .before .before .before .before .pre .1 .0) (c .if2 .left)
 
 refused-parts-done-requires : (t : ℕ) → refused-parts-lts.Need-done-requires (called t) (refused-parts-at t) refused-parts.Post
