@@ -1,4 +1,4 @@
--- A word that is not refused: its index may be summed up in the limbs in use of the table's last row, and fills ten limbs.
+-- A word that is not refused: its index may be written to the limbs in use of the table's last row, and fills ten limbs.
 use mathlib.Core.Path.{_≡_, refl, ap, sym}
 use mathlib.Core.Bool.{not}
 use mathlib.Core.List.{List, _∷_, _++_}
@@ -10,7 +10,7 @@ use lib.Dec.{eqb}
 use lib.ListN.{length, take, drop, replicate, length-take}
 use borrow.Author.Tests.{eqb-true, eq-eqb, ne-eqb}
 use Rattle.limbs.specs.Limbs.{base, limbsOf, holding, used, allLimbs}
-use Rattle.limbs.specs.ValueLaws.{base-positive, zeros-hold}
+use Rattle.limbs.specs.ValueLaws.{base-positive}
 use Rattle.limbs.specs.UsedLaws.{used-length, numberAt-below-used}
 use Rattle.replies.specs.declared.Reply.{Reply}
 use Rattle.replies.specs.declared.Profile.{Profile}
@@ -42,12 +42,12 @@ limbs-above zero k v l = rw (zero-add, lt-one (rw pow-zero at l)) (sym (limbs-of
 limbs-above (suc n) k v l =
     rw suc-add (ap (λ (w : List ℕ). v % base ∷ w) (limbs-above n k (v / base) (div-lt-iff-lt-mul base-positive .1 (rw pow-suc at l))))
 
--- The index summed up from 0, in the n limbs that it fits, is the index in ten limbs.
+-- The index in the n limbs that it fits, with 0 above them, is the index in ten limbs.
 pub index-in-ten : (q x n : ℕ) (cells : List ℕ) → n ≤ 10 → index q x cells < base ^ n → withIndex q x n cells noLimbs ≡ limbsOf 10 (index q x cells)
 unfolding holding
 index-in-ten q x n cells l h =
     let ten : n + (10 - n) ≡ 10 = omega arith in
-    rw (zeros-hold n 10, zero-add) (rw ten at (limbs-above n (10 - n) (index q x cells) h))
+    rw ten at (limbs-above n (10 - n) (index q x cells) h)
 
 -- The first test that refuses decides.
 module _ (p : Profile) (table cells : List ℕ) {profile : Reply} (e : profile ≡ profileRefusal p) where
@@ -109,18 +109,18 @@ module _ (p : Profile) (table cells : List ℕ) (all : allLimbs table) (s : NotR
   unfolding index N
   index-fits = lt-trans (index-below-count (p .q) (legal (p .q) (p .x)) (p .m) cells (s .word)) last-row-fits
 
-  -- So its index may be summed up from 0, ..
+  -- So its index may be written there, ..
   pub indexable : Indexable (p .q) (p .x) (limbsInUse (p .m) table) table cells noLimbs
   indexable = record {
     levels = s .range .levels;
     reach = s .range .reach;
+    short = rw (s .word .cells) (s .range .length .most);
     levelled = s .word .levelled;
     passes = s .word .passes;
     belongs = rw (s .word .cells) (s .belongs);
     limbs = few-limbs;
     lent = few-limbs;
     rows = rw (s .word .cells) last-row-fits;
-    fits = rw (zeros-hold (limbsInUse (p .m) table) 10, zero-add) index-fits;
   }
 
   -- .. and is then the index in ten limbs.

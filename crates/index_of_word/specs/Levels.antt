@@ -30,6 +30,14 @@ cells-within {x} {left} l = rw (le-ltb x left l)
 pub factor-within : (t : ℕ) {x left : ℕ} → left ≤ x → 1 ≡ guardedFactor t x left
 factor-within t {x} {left} l = rw (le-ltb x left l)
 
+-- The last weighs at most 31 times a row.
+pub factor-small : {t : ℕ} (x left : ℕ) → t ≤ 31 → guardedFactor t x left ≤ 31
+factor-small {t} x left small = go (ltb x left)
+  where
+    go : (b : Bool) → cond b t 1 ≤ 31
+    go true = small
+    go false = lit< tt
+
 -- So they are few: no more than x, nor than there are, and at least one where there is one.
 pub record Few (x left k : ℕ) : Type 0 where
   pub most : k ≤ x

@@ -4,7 +4,8 @@ pub mod Examples
 pub mod IndexBehind
 pub mod Parts
 pub mod Levels
-pub mod Summing
+pub mod Counts
 pub mod Passing
+pub mod Spans
 pub mod Whole
 pub mod Answers

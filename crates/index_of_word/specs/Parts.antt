@@ -1,4 +1,4 @@
--- The parts of a indexBehind: what one cell of an open stretch, a whole guarded stretch or a top behind a top adds, as a multiple of one row.
+-- The parts of an indexBehind: what one cell of an open stretch, a whole guarded stretch or a top behind a top adds, as a multiple of one row.
 use mathlib.Core.Path.{_≡_, refl, _∙_, sym}
 use mathlib.Core.Bool.{Bool, true, false, cond, and-eq-true-iff}
 use mathlib.Core.List.{List, [], _∷_}
@@ -24,11 +24,11 @@ pub record Walks (t x g : ℕ) (w : List ℕ) : Type 0 where
   pub levelled : allBelow (suc t) w ≡ true
   pub stands : walk (belowTop t x) g w ≡ true
 
--- From the cells v with the guard g to those of w with the guard h, which are no more, the index behind them falls by `part`.
+-- From the cells v with the guard g to those of w with the guard h, which are fewer, the index behind them falls by `part`.
 pub record Part (t x g : ℕ) (v : List ℕ) (h : ℕ) (w : List ℕ) (part : ℕ) : Type 0 where
   pub falls : indexBehind t x g v ≡ part + indexBehind t x h w
   pub walks : Walks t x h w
-  pub shorter : length w ≤ length v
+  pub shorter : length w < length v
 
 -- What the number of the guarded cells behind a top adds, where the top has `left` cells behind it.
 abbrev pub guardedPart : ℕ → ℕ → ℕ → ℕ → ℕ

@@ -1,56 +1,100 @@
--- The index of a whole word, summed up from a table that belongs to the profile.
-use mathlib.Core.Path.{_≡_, _∙_, sym}
+-- The index of a whole word, from the counts of the rows that it takes and a table that belongs to the profile.
+use mathlib.Core.Path.{_≡_, refl, ap, _∙_}
 use mathlib.Core.Bool.{true}
-use mathlib.Core.List.{List}
-use Prim.Native.Nat.{ℕ, zero, suc, _+_, _-_, _^_, _≤_, _<_}
-use native.Mathlib.Numerals.{sub-one}
+use mathlib.Core.List.{List, [], _∷_}
+use Prim.Native.Nat.{ℕ, zero, suc, _+_, _-_, _*_, _^_, _≤_, _<_}
+use native.Mathlib.Nat.{lt-of-le-of-lt, zero-add}
 use native.Mathlib.Omega.{arith}
-use lib.ListN.{length, drop}
+use lib.Dec.{lit<}
+use lib.ListN.{length, take, replicate, length-replicate}
 use Rattle.limbs.specs.Limbs.{base, numberAt, holding}
+use Rattle.combining.specs.Combining.{combined, Combinable}
 use Rattle.replies.specs.ReplyLaws.{Between}
 use Rattle.listing.specs.Listing.{allBelow}
 use Rattle.code.specs.Code.{N, legal, index}
-use Rattle.code.specs.Stretches.{following-legal, legal-walks}
+use Rattle.code.specs.Stretches.{following, following-legal, legal-walks}
 use Rattle.tables.specs.Tables.{Belongs}
 use Rattle.tables.specs.TableLaws.{row-stands}
 use Rattle.index_of_word.specs.IndexBehind.{index-behind-open}
-use Rattle.index_of_word.specs.Summing.{Summable, summed}
+use Rattle.index_of_word.specs.Counts.{weighed, Countable, RowsCounted, weighed-none, total-none}
+use Rattle.index_of_word.specs.Spans.{Span, row-fits}
 
--- A legal word, a table that belongs to the profile and whose rows fit n limbs, and n limbs of `sum` with room for the index.
+-- A legal word of at most 128 cells, a table that belongs to the profile and whose rows fit n limbs, and n limbs of `sum`.
 pub record Indexable (q x n : ℕ) (table cells sum : List ℕ) : Type 0 where
   pub levels : Between 2 32 q
   pub reach : Between 1 8 x
+  pub short : length cells ≤ 128
   pub levelled : allBelow q cells ≡ true
   pub passes : legal q x cells ≡ true
   pub belongs : Belongs q x (length cells) table
   pub limbs : n ≤ 10
   pub lent : n ≤ length sum
   pub rows : N q x (length cells) < base ^ n
-  pub fits : numberAt n sum 0 + index q x cells < base ^ n
 
--- `sum` with the index of a word added to its first n limbs.
+-- `sum` with the index of a word in its first n limbs.
 abbrev pub withIndex : ℕ → ℕ → ℕ → List ℕ → List ℕ → List ℕ
-withIndex q x n cells sum = holding n (numberAt n sum 0 + index q x cells) sum
+withIndex q x n cells sum = holding n (index q x cells) sum
 
--- The walkers may sum it up from an open stretch, ..
-pub summable : (q x n : ℕ) (table cells sum : List ℕ) → Indexable q x n table cells sum → Summable (q - 1) x n 0 table (drop 0 cells) sum
-summable zero x n table cells sum s = absurd (omega (arith, s .levels .least))
-summable (suc t) x n table cells sum s =
-    let least = s .levels .least in
-    let most = s .levels .most in
-    rw sub-one (record {
-      levels = record { least = omega arith; most = omega arith };
-      reach = s .reach;
-      walks = record { levelled = s .levelled; stands = legal-walks t x cells ∙ s .passes };
+-- k counts of 0, and m of 128.
+abbrev pub zeros : ℕ → List ℕ
+zeros k = replicate k 0
+
+abbrev pub noCounts : ℕ → List ℕ
+noCounts m = take m (zeros 128)
+
+-- The first m of them.
+taken-zeros : (m k : ℕ) → m ≤ k → take m (zeros k) ≡ zeros m
+taken-zeros zero k l = refl
+taken-zeros (suc m) zero l = absurd (omega arith)
+taken-zeros (suc m) (suc k) l = ap (λ (rest : List ℕ). 0 ∷ rest) (taken-zeros m k (omega arith))
+
+-- Rows taken from a table are what their counts weigh.
+combined-weighed : (t x n m r : ℕ) (table counts : List ℕ) → ((i : ℕ) → i ≤ m → numberAt n table (10 * i) ≡ following t x 0 i)
+    → r + length counts ≤ m → combined n table r counts ≡ weighed t x r counts
+unfolding combined weighed
+combined-weighed t x n m r table [] rows l = refl
+combined-weighed t x n m r table (c ∷ counts) rows l =
+    rw (rows r (omega arith), combined-weighed t x n m (suc r) table counts rows (omega arith))
+
+module _ {q x n : ℕ} {table cells sum : List ℕ} (s : Indexable q x n table cells sum) where
+  no-counts : noCounts (length cells) ≡ zeros (length cells)
+  no-counts = taken-zeros (length cells) 128 (s .short)
+
+  -- There are as many counts as cells.
+  pub counts-length : length (noCounts (length cells)) ≡ length cells
+  counts-length = rw (no-counts, length-replicate)
+
+  -- Top is one level less than q.
+  top-first : suc (q - 1) ≡ q
+  top-first = omega (arith, s .levels .least)
+
+  -- The walkers may count the rows of a word from an open stretch, ..
+  pub countable : Countable (q - 1) x 0 cells (noCounts (length cells))
+  countable = rw no-counts (record {
+    levels = record { least = omega (arith, s .levels .least); most = omega (arith, s .levels .most) };
+    reach = s .reach;
+    walks = record { levelled = rw top-first (s .levelled); stands = legal-walks (q - 1) x cells ∙ rw top-first (s .passes) };
+    lent = rw length-replicate (omega arith);
+    room = rw total-none (omega (arith, s .short));
+  })
+
+  module _ {counts : List ℕ} (kept : length counts ≡ length cells) (counted : RowsCounted (q - 1) x 0 cells (noCounts (length cells)) counts) where
+    -- .. the rows may be combined as they are counted, ..
+    pub combinable : {span : ℕ} → Span q span → Combinable n span table counts sum
+    combinable span = record {
       limbs = s .limbs;
       lent = s .lent;
-      long = s .belongs .long;
-      rows = λ i l. row-stands (suc t) x (length cells) n table (omega arith) (s .belongs) (s .limbs) (s .rows) i l ∙ sym (following-legal t x i);
-      fits = rw index-behind-open (s .fits);
-    })
+      few = rw kept (s .short);
+      spans = span .some .most;
+      long = omega (arith, s .belongs .long, kept);
+      small = λ j r below inside. rw (s .belongs .rows r (omega (arith, kept))) (row-fits q x j (s .levels .least) span below);
+      taken = lt-of-le-of-lt (counted .few) (lit< tt);
+    }
 
--- .. and what they sum up is the index.
-pub summed-index : (q x n : ℕ) (cells sum : List ℕ) → 0 < q → summed (q - 1) x n 0 (drop 0 cells) sum ≡ withIndex q x n cells sum
-unfolding summed
-summed-index zero x n cells sum l = absurd (omega arith)
-summed-index (suc t) x n cells sum l = rw (sub-one, index-behind-open)
+    -- .. and together are the index.
+    pub combined-index : combined n table 0 counts ≡ index q x cells
+    combined-index =
+        combined-weighed (q - 1) x n (length cells) 0 table counts
+        (λ i h. row-stands q x (length cells) n table (s .levels .least) (s .belongs) (s .limbs) (s .rows) i h ∙ rw (following-legal, top-first))
+        (rw zero-add (omega (arith, kept)))
+        ∙ rw (no-counts, weighed-none, zero-add, index-behind-open, top-first) at (counted .weighs)

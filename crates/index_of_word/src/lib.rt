@@ -1,6 +1,8 @@
 // The index of a word: the number of legal words of its length before it.
 ghost use mathlib.Core.Path.{_≡_};
+ghost use Prim.Native.Nat.{_≤_};
 ghost use Rattle.index_of_word.specs.Indexing.{wordRefusal, indexing};
+ghost use Rattle.index_of_word.specs.Spans.{Span};
 ghost use Rattle.index_of_word.specs.Whole.{Indexable, withIndex};
 use numbers::Index;
 use replies::Profile;
@@ -15,13 +17,33 @@ pub struct Indexed {
     pub index: Index,
 }
 
-// Adds the index of a legal word to the first n limbs of `sum`, from the rows of a table that
-// belongs to the profile.
-pub fn add_index(q: usize, x: usize, table: &[u64], n: usize, cells: &[u8], sum: &mut [u64])
+// So many rows on, a row takes at most one limb more: N(r) is at most q^r, and 4^32, 8^21, 16^16 and
+// 32^12 are at most 2^64.
+fn span(q: usize) -> usize
+    requires { ⌜ q ≤ 32 ⌝ }
+    ensures { λ r. ⌜ Span q r ⌝ }
+{
+    if q <= 4 {
+        32
+    } else if q <= 8 {
+        21
+    } else if q <= 16 {
+        16
+    } else {
+        12
+    }
+}
+
+// Writes the index of a legal word to the first n limbs of `sum`, from the rows of a table that
+// belongs to the profile: how often each row is taken is counted first.
+pub fn put_index(q: usize, x: usize, table: &[u64], n: usize, cells: &[u8], sum: &mut [u64])
     requires { ⌜ Indexable q x n (now table) (now cells) (now sum) ⌝ }
     ensures { λ _. ⌜ now (sum .exit) ≡ withIndex q x n (now (cells .entry)) (now (sum .entry)) ⌝ }
 {
-    stretch::open_stretch((q - 1) as u64, x, table, n, cells, 0, sum);
+    let mut counts = [0; 128];
+    let m = cells.len();
+    stretch::open_stretch((q - 1) as u64, x, cells, 0, &mut counts[..m]);
+    combining::combine(table, &counts[..m], n, span(q), sum);
 }
 
 // The tests, in the order of their numbers: profile, table, length, cells.
@@ -54,7 +76,7 @@ pub fn index(p: Profile, table: &[u64], cells: &[u8]) -> Indexed
         return Indexed { reply, index: none };
     }
     let n = limbs::limbs_used(table, 10 * p.m, 10);
-    add_index(p.q, p.x, table, n, cells, &mut sum);
+    put_index(p.q, p.x, table, n, cells, &mut sum);
     let index = Index(sum);
     Indexed {
         reply: replies::done(),

@@ -48,9 +48,9 @@ module _ {p : Profile} {table : List ℕ} {used s : ℕ} (found : Found p table 
     not-refused : NotRefused p table word
     not-refused = record { range = found .ready .inRange; belongs = found .ready .belongs; word = carrier .word }
 
-    -- The index of a word that carries a message may be summed up from 0, and the limbs then hold it.
-    pub summable : Indexable (p .q) (p .x) used table word noLimbs
-    summable = rw (found .limbs) (indexable p table word all not-refused)
+    -- The index of a word that carries a message may be written over 0, and the limbs then hold it.
+    pub word-indexable : Indexable (p .q) (p .x) used table word noLimbs
+    word-indexable = rw (found .limbs) (indexable p table word all not-refused)
 
     index-small : index (p .q) (p .x) word < base ^ 10
     index-small = lt-trans (index-below-N (p .q) (p .x) (p .m) word (carrier .word)) (words-fit (found .ready .inRange))

@@ -11,7 +11,7 @@ use numbers::Index;
 use replies::Profile;
 
 // Writes the s bits of the message that a word carries to `out` from bit place `at` on. The index is
-// summed up in the limbs that row m of the table uses.
+// written to the limbs that row m of the table uses.
 fn put_message(
     p: Profile,
     table: &[u64],
@@ -25,7 +25,7 @@ fn put_message(
     ensures { λ _. ⌜ now (out .exit) ≡ withBits at (bitsOf s (messageOf (index (p .q) (p .x) (now (word .entry))))) (now (out .entry)) ⌝ }
 {
     let mut sum = [0; 10];
-    index_of_word::add_index(p.q, p.x, table, used, word, &mut sum);
+    index_of_word::put_index(p.q, p.x, table, used, word, &mut sum);
     let index = Index(sum);
     let message = index.message();
     let limbs = message.0;

@@ -1,4 +1,4 @@
--- `index_of_word::index` meets its contract: a word that is not refused has its index summed up from 0.
+-- `index_of_word::index` meets its contract: a word that is not refused has its index written.
 use mathlib.Core.Path.{_≡_, _∙_}
 use native.Mathlib.Omega.{arith}
 use borrow.Author.Needs.{needs}
@@ -31,11 +31,11 @@ mul-limbs-used c = omega (arith, not-refused (c .before) .range .length .most)
 limbs-used-requires : tie.Need-limbs-used-requires
 limbs-used-requires c κs = omega (arith, not-refused (c .before) .belongs .long)
 
-slice-aggregate-add-index : tie.Need-slice-aggregate-add-index
-slice-aggregate-add-index c = search needs
+slice-aggregate-put-index : tie.Need-slice-aggregate-put-index
+slice-aggregate-put-index c = search needs
 
-add-index-requires : tie.Need-add-index-requires
-add-index-requires c κs =
+put-index-requires : tie.Need-put-index-requires
+put-index-requires c κs =
     let d = c .before .before .before in
     rw (c .before .limbs-used .ensures)
     (indexable _ _ _ (table-limbs d) (not-refused d))
@@ -48,7 +48,7 @@ returns-2 c =
     let b = c .before in
     let d = b .before .before .before .before .before in
     let whole = index-whole _ _ _ (table-limbs d) (not-refused d) in
-    let sum = rw (b .before .before .before .limbs-used .ensures) at (b .before .add-index .ensures) in
+    let sum = rw (b .before .before .before .limbs-used .ensures) at (b .before .put-index .ensures) in
     rw (c .done .ensures) (indexing-done _ _ _ (none-refused d) (sum ∙ whole))
 
 pub index-spec : {M : Type 1} → statement M
@@ -59,7 +59,7 @@ index-spec =
     returns
     mul-limbs-used
     limbs-used-requires
-    slice-aggregate-add-index
-    add-index-requires
+    slice-aggregate-put-index
+    put-index-requires
     done-requires
     returns-2)

@@ -3,24 +3,24 @@ use native.Mathlib.Nat.{le-of-eq}
 use native.Mathlib.Omega.{arith}
 use borrow.Author.Needs.{needs}
 use Rattle.limbs.specs.Limbs.{allLimbs}
-use Rattle.read_stream.specs.OutputLaws.{few-bits, summable, index-held, message-held, message-put}
+use Rattle.read_stream.specs.OutputLaws.{few-bits, word-indexable, index-held, message-held, message-put}
 use Rattle.read_stream.proofs.messages.put_message.Statement.{statement}
 use Rattle.read_stream.proofs.messages.put_message.Tie as tie
 
 table-limbs : (c : tie.After-sum) → allLimbs (c .before .before .before .before .args .table .now)
 table-limbs c k = c .before .before .before .shared-slice-known .given k .fits
 
-slice-aggregate-add-index : tie.Need-slice-aggregate-add-index
-slice-aggregate-add-index c = search needs
+slice-aggregate-put-index : tie.Need-slice-aggregate-put-index
+slice-aggregate-put-index c = search needs
 
-add-index-requires : tie.Need-add-index-requires
-add-index-requires c κs = let pre = c .before .before .before .before .pre in summable (pre .0) (table-limbs c) (pre .1)
+put-index-requires : tie.Need-put-index-requires
+put-index-requires c κs = let pre = c .before .before .before .before .pre in word-indexable (pre .0) (table-limbs c) (pre .1)
 
 message-requires : tie.Need-message-requires
 message-requires c κs =
-    let added = c .before in
-    let pre = added .before .before .before .before .before .pre in
-    rw (index-held (pre .0) (table-limbs (added .before)) (pre .1) (added .add-index .ensures)) (pre .1 .first)
+    let written = c .before in
+    let pre = written .before .before .before .before .before .pre in
+    rw (index-held (pre .0) (table-limbs (written .before)) (pre .1) (written .put-index .ensures)) (pre .1 .first)
 
 slice-aggregate-put-number : tie.Need-slice-aggregate-put-number
 slice-aggregate-put-number c = search needs
@@ -37,17 +37,17 @@ returns : tie.Need-returns
 returns c =
     let put = c .before .before in
     let given = put .before .before .before .before in
-    let added = given .before .before in
-    let pre = added .before .before .before .before .before .pre in
-    let number = message-held (pre .0) (table-limbs (added .before)) (pre .1) (added .add-index .ensures) (given .message .ensures) in
+    let written = given .before .before in
+    let pre = written .before .before .before .before .before .pre in
+    let number = message-held (pre .0) (table-limbs (written .before)) (pre .1) (written .put-index .ensures) (given .message .ensures) in
     message-put _ _ _ number (put .put-number .ensures)
 
 pub put-message-spec : {M : Type 1} → statement M
 put-message-spec =
     tie.close
     (tie.spec
-    slice-aggregate-add-index
-    add-index-requires
+    slice-aggregate-put-index
+    put-index-requires
     message-requires
     slice-aggregate-put-number
     put-number-requires
