@@ -1,12 +1,13 @@
 -- Laws of bits: of the number that they stand for, and of the bits of bytes.
 use mathlib.Core.Path.{_≡_, refl, sym, ap}
 use mathlib.Core.List.{List, [], _∷_, _++_, append-assoc}
-use Prim.Native.Nat.{ℕ, zero, suc, _+_, _*_, _/_, _%_, _^_, _<_}
-use native.Mathlib.Nat.{zero-add, suc-add, add-comm, add-assoc, add-mul, mul-suc, mul-assoc, zero-mul, mod-one, mod-lt, mod-eq-of-lt, mul-add-div-right, mul-add-mod-self-right, pow-succ', lt-of-lt-of-le, min-le-left}
+use Prim.Native.Nat.{ℕ, zero, suc, _+_, _*_, _/_, _%_, _^_, _≤_, _<_}
+use native.Mathlib.Nat.{zero-add, suc-add, add-comm, add-assoc, add-mul, mul-suc, mul-assoc, zero-mul, mod-one, mod-lt, mod-eq-of-lt, mul-add-div-right, mul-add-mod-self-right, div-add-mod', pow-succ', lt-of-lt-of-le, min-le-left}
+use native.Mathlib.Omega.{arith}
 use lib.Arith.{digits-lt, digits-div, mod-mul}
 use lib.Dec.{lit<}
-use lib.ListN.{length, getD, take, drop, length-append, length-take}
-use lib.Seq.{getD-drop}
+use lib.ListN.{length, getD, take, drop, length-append, length-take, length-drop}
+use lib.Seq.{getD-drop, take-add}
 use lib.Pow.{pow-pos, pow-mono, pow-add, shr-shr}
 use Rattle.bits.specs.Bits.{bitsOf, numberOf, bitsOfBytes}
 
@@ -71,6 +72,12 @@ pub numberOf-take-below : (n : ℕ) (bits : List ℕ) → allBits bits → numbe
 numberOf-take-below n bits all =
     lt-of-lt-of-le (numberOf-below (take n bits) (take-bits n bits all)) (pow-mono (rw length-take (min-le-left n (length bits))))
 
+-- k bits more of a number.
+pub numberOf-take-more : (bits : List ℕ) (a k : ℕ) → a + k ≤ length bits → numberOf (take (a + k) bits) ≡ numberOf (take a bits) * 2 ^ k + numberOf (take k (drop a bits))
+numberOf-take-more bits a k inside =
+    let long : length (take k (drop a bits)) ≡ k = rw (length-take, length-drop) (omega arith) in
+    rw (take-add, numberOf-append, long)
+
 -- The bits of a number: those of what stands above its n lowest bits, then these.
 pub bitsOf-append : (m n v : ℕ) → bitsOf (m + n) v ≡ bitsOf m (v / 2 ^ n) ++ bitsOf n v
 unfolding bitsOf
@@ -83,6 +90,10 @@ unfolding bitsOf
 bitsOf-above zero t v = refl
 bitsOf-above (suc n) t v =
     rw (pow-succ' 2 n, ← (mul-assoc t 2 (2 ^ n)), mul-add-div-right (pow-pos n) (t * 2) v, mul-add-mod-self-right t 2 (v / 2 ^ n), bitsOf-above n (t * 2) v)
+
+-- So they are those of the number below 2 ^ n that it leaves.
+pub bitsOf-below : (n v : ℕ) → bitsOf n (v % 2 ^ n) ≡ bitsOf n v
+bitsOf-below n v = rw (bitsOf-above n (v / 2 ^ n) (v % 2 ^ n)) at (ap (bitsOf n) (div-add-mod' v (2 ^ n)))
 
 -- Bits are read off the number that they stand for.
 pub bitsOf-numberOf : (bits : List ℕ) → allBits bits → bitsOf (length bits) (numberOf bits) ≡ bits

@@ -6,12 +6,12 @@ use native.Mathlib.Nat.{add-zero, zero-add, zero-mul, suc-add, sub-add-eq, mod-e
 use native.Mathlib.Omega.{arith}
 use lib.Arith.{digits-lt}
 use lib.Dec.{lit<}
-use lib.ListN.{length, getD, set, take, drop, replicate, length-append, length-take, length-replicate}
-use lib.Seq.{take-at, drop-at, take-append-add, set-split}
+use lib.ListN.{length, getD, set, take, drop, replicate, length-append, length-take, length-replicate, take-append-drop}
+use lib.Seq.{take-at, drop-at, take-append-add, take-suc, append-snoc, set-at, set-split}
 use lib.Pow.{pow-pos, pow-add, shl-lt, shr-lt, shr-mod}
 use Rattle.bits.specs.Bits.{bitsOf, numberOf, bitsOfBytes, bytesFor, packedInto, packed, withBits}
 use Rattle.bits.specs.BitLaws.{take-below, length-bitsOf, numberOf-append, numberOf-bitsOf, length-bitsOfBytes}
-use Rattle.bits.specs.PieceLaws.{bits-before}
+use Rattle.bits.specs.PieceLaws.{take-bytes, bits-before}
 
 -- Each element of a list is a byte.
 abbrev pub allBytes : List ℕ → Type 0
@@ -95,6 +95,33 @@ with-bits-in-byte bytes q r c v all some one inside =
       append-assoc (take q bytes),
     )
     (sym (set-split bytes q _ inside))
+
+-- Bits written from the byte p on: the bytes before it are as they were, and so are those behind the bits.
+with-bits-from-byte : (p : ℕ) (bits bytes : List ℕ) → allBytes bytes → p ≤ length bytes → withBits (8 * p) bits bytes ≡ take p bytes ++ (packed bits ++ drop (p + bytesFor (length bits)) bytes)
+unfolding withBits packedInto
+with-bits-from-byte p [] bytes all inside = rw add-zero (sym (take-append-drop p bytes))
+with-bits-from-byte p (b ∷ bits) bytes all inside =
+    let front : length (take p bytes) ≡ p = rw length-take (omega arith) in
+    let count : bytesFor (length (bitsOfBytes (take p bytes) ++ (b ∷ bits))) ≡ length (take p bytes) + bytesFor (length (b ∷ bits)) = simp (length-append, length-bitsOfBytes) (omega arith) in
+    let last : bytesFor (8 * p + length (b ∷ bits)) ≡ p + bytesFor (length (b ∷ bits)) = omega arith in
+    rw (take-bytes, count, last, packedInto-bytes (take p bytes) (bytesFor (length (b ∷ bits))) (b ∷ bits) (take-below 256 p bytes (lit< tt) all), append-assoc (take p bytes))
+
+-- A byte set before bits that are written from the next byte on: its bits are written with them.
+pub set-before-bits : (p x : ℕ) (bits bytes : List ℕ) → allBytes bytes → x < 256 → p < length bytes → set (withBits (8 * suc p) bits bytes) p x ≡ withBits (8 * p) (bitsOf 8 x ++ bits) bytes
+set-before-bits p x bits bytes all small inside =
+    let more : length (bitsOf 8 x ++ bits) ≡ 8 + length bits = simp (length-append, length-bitsOf) in
+    let count : bytesFor (length (bitsOf 8 x ++ bits)) ≡ suc (bytesFor (length bits)) = rw more (omega arith) in
+    let last : p + suc (bytesFor (length bits)) ≡ suc p + bytesFor (length bits) = omega arith in
+    rw (
+      with-bits-from-byte (suc p) bits bytes all (omega arith),
+      with-bits-from-byte p (bitsOf 8 x ++ bits) bytes all (omega arith),
+      count,
+      packed-whole x (bytesFor (length bits)) bits small,
+      last,
+      take-suc bytes p 0,
+      append-snoc,
+      set-at (take p bytes) (getD bytes p 0) (packed bits ++ drop (suc p + bytesFor (length bits)) bytes) x p (rw length-take (omega arith)),
+    )
 
 -- A piece written from bit place `at` on.
 pub with-bits-byte : (bytes : List ℕ) (at c v : ℕ) → allBytes bytes → 0 < c → at % 8 + c ≤ 8 → at / 8 < length bytes

@@ -5,6 +5,7 @@ pub mod WithLaws
 pub mod PieceLaws
 pub mod ByteLaws
 pub mod MovingLaws
+pub mod PartsLaws
 pub mod LimbLaws
 pub mod RoundTrip
 pub mod Examples

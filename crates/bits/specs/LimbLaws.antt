@@ -11,11 +11,11 @@ use lib.Dec.{ltb}
 use lib.ListN.{length, getD, set, take, drop, length-take, length-drop, length-set, take-append-drop}
 use lib.Pow.{pow-add, pow-mono}
 use lib.Arith.{digits-div, digits-mod}
-use lib.Seq.{take-add, drop-drop, drop-cons, set-at, append-snoc, getD-take}
+use lib.Seq.{drop-drop, drop-cons, set-at, append-snoc, getD-take}
 use Rattle.limbs.specs.Limbs.{base, allLimbs, value, limbsOf, numberAt, holding}
 use Rattle.limbs.specs.ValueLaws.{base-positive, power-positive, length-limbsOf, limbsOf-more, value-append, value-below, power-above}
 use Rattle.bits.specs.Bits.{bitsOf, numberOf, bitsOfBytes, withBits}
-use Rattle.bits.specs.BitLaws.{allBits, take-below, drop-bits, numberOf-append, numberOf-take-below, bitsOf-above, length-bitsOfBytes, bitsOfBytes-bits}
+use Rattle.bits.specs.BitLaws.{allBits, take-below, drop-bits, numberOf-take-below, numberOf-take-more, bitsOf-above, length-bitsOfBytes, bitsOfBytes-bits}
 use Rattle.bits.specs.MovingLaws.{numberFrom, Written, written-more}
 
 -- One limb more of a number is held.
@@ -29,12 +29,6 @@ holding-more i v l inside =
       limbsOf-more,
       append-snoc,
     )
-
--- k bits more of a number.
-numberOf-take-more : (bits : List ℕ) (a k : ℕ) → a + k ≤ length bits → numberOf (take (a + k) bits) ≡ numberOf (take a bits) * 2 ^ k + numberOf (take k (drop a bits))
-numberOf-take-more bits a k inside =
-    let long : length (take k (drop a bits)) ≡ k = rw (length-take, length-drop) (omega arith) in
-    rw (take-add, numberOf-append, long)
 
 -- The lowest limb of the number of bits is that of the last 64, or of all where there are fewer; what stands above it is the number of the bits before those.
 record LowestLimb (bits : List ℕ) (left k : ℕ) : Type 0 where
@@ -132,4 +126,4 @@ pub written-limb : (m : ℕ) (l : List ℕ) {n at done : ℕ} {before now : List
     → n - done - k ≡ 64 * i → allLimbs l → m ≤ length l → i < m → k ≤ 64 → done + k ≤ n → at + n ≤ 8 * length before
     → Written n (numberAt m l 0) at (done + k) before now'
 written-limb m l w i k wrote below all room one small few inside =
-    written-more w k (wrote ∙ rw (below, bits-of-limb m l i k all room one small)) few inside
+    written-more w k (64 * i) _ (wrote ∙ rw (bits-of-limb m l i k all room one small)) (λ _. refl) (omega arith) inside

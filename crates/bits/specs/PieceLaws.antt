@@ -36,7 +36,7 @@ drop-bytes (suc q) [] = drop-nil (8 * suc q)
 drop-bytes (suc q) (x ∷ bytes) = rw (eight-more q x, drop-append-add, drop-bytes q bytes)
 
 -- The bits of the first q bytes.
-take-bytes : (q : ℕ) (bytes : List ℕ) → take (8 * q) (bitsOfBytes bytes) ≡ bitsOfBytes (take q bytes)
+pub take-bytes : (q : ℕ) (bytes : List ℕ) → take (8 * q) (bitsOfBytes bytes) ≡ bitsOfBytes (take q bytes)
 unfolding bitsOfBytes
 take-bytes zero bytes = refl
 take-bytes (suc q) [] = take-nil (8 * suc q)

@@ -10,6 +10,13 @@ pub fn lesser(a: usize, b: usize) -> usize
     if a < b { a } else { b }
 }
 
+// How many of k bits from bit place `at` on lie in a byte begun before it.
+pub fn begun(at: usize, k: usize) -> usize
+    ensures { λ r. ⌜ r ≡ min ((8 - at % 8) % 8) k ⌝ }
+{
+    lesser((8 - at % 8) % 8, k)
+}
+
 // c bits of a number, above its `below` lowest ones.
 pub fn out_of(number: u64, below: usize, c: usize) -> u64
     requires { ⌜ (below < 64) × (c < 64) ⌝ }
@@ -33,4 +40,11 @@ pub fn into_byte(byte: u8, room: usize, c: usize, piece: u64) -> u8
 {
     let kept = behind(byte as u64 >> room, c, piece);
     behind(kept, room - c, 0) as u8
+}
+
+// The last byte of a number.
+pub fn last_byte(number: u64) -> u8
+    ensures { λ r. ⌜ r ≡ number % 256 ⌝ }
+{
+    (number % 256) as u8
 }

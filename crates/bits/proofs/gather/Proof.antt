@@ -1,81 +1,71 @@
--- `bits::gather` meets its contract. The loop's invariant: the bits done so far make the number.
-use Prim.Native.Nat.{_-_, _≤_}
-use native.Mathlib.Nat.{le-antisymm}
+-- `bits::gather` meets its contract: the number of all k bits is that of their parts.
+use mathlib.Core.Path.{_∙_}
 use native.Mathlib.Omega.{arith}
-use borrow.Author.Needs.{needs, fits-under}
-use Rattle.bits.specs.MovingLaws.{Gathered, gathered-none, gathered-fits, gathered-more}
+use borrow.Author.Needs.{needs}
+use lib.Dec.{lit<}
+use Rattle.bits.specs.MovingLaws.{gathered-first, gathered-below, gathered-all}
+use Rattle.bits.specs.PartsLaws.{in-parts, gathered-parts}
 use Rattle.bits.proofs.gather.Statement.{statement}
 use Rattle.bits.proofs.gather.Tie as tie
 
-abbrev Inv-loop : tie.InvT-loop
-Inv-loop bytes at k number₀ done₀ number done = (done ≤ k) × Gathered bytes at done number
+begun-requires : tie.Need-begun-requires
+begun-requires c κs = search needs
 
-abbrev μ-loop : tie.MeasureT-loop
-μ-loop bytes at k number₀ done₀ number done = k - done
+sub-n : tie.Need-sub-n
+sub-n c = omega arith
 
-loop-holds : tie.Need-loop-holds Inv-loop μ-loop
-loop-holds c = (omega arith, gathered-none _ _)
+sub-left : tie.Need-sub-left
+sub-left c = omega arith
 
-add-place : tie.Need-add-place Inv-loop μ-loop
-add-place c = omega arith
+gather-piece-requires : tie.Need-gather-piece-requires
+gather-piece-requires c κs = omega arith
 
-sub-room : tie.Need-sub-room Inv-loop μ-loop
-sub-room c = omega arith
+add-gather-bytes : tie.Need-add-gather-bytes
+add-gather-bytes c = omega arith
 
-sub-lesser : tie.Need-sub-lesser Inv-loop μ-loop
-sub-lesser c = omega arith
+gather-bytes-requires : tie.Need-gather-bytes-requires
+gather-bytes-requires c κs =
+    let args = c .before .before .before .args in
+    let read = gathered-first (args .bytes .now) (args .at) (c .before .begun .result) (c .gather-piece .ensures) in
+    (omega arith, omega arith, gathered-below read 0 _ (lit< tt) (omega arith))
 
-lesser-requires : tie.Need-lesser-requires Inv-loop μ-loop
-lesser-requires c κs = search needs
+add-gather-piece : tie.Need-add-gather-piece
+add-gather-piece c = omega arith
 
-shared-slice-read-out-of : tie.Need-shared-slice-read-out-of Inv-loop μ-loop
-shared-slice-read-out-of c = omega arith
+sub-gather-piece : tie.Need-sub-gather-piece
+sub-gather-piece c = omega arith
 
-cast-out-of : tie.Need-cast-out-of Inv-loop μ-loop
-cast-out-of c = fits-under _ _ 256 (c .shared-slice-known2 .given _ .fits) tt
+gather-piece-requires-2 : tie.Need-gather-piece-requires-2
+gather-piece-requires-2 c κs =
+    let args = c .before .before .before .before .args in
+    let p = in-parts (args .at) (args .k) _ (c .before .before .begun .ensures) in
+    (p .last, rw (p .end) (c .before .before .before .before .pre .0))
 
-sub-out-of : tie.Need-sub-out-of Inv-loop μ-loop
-sub-out-of c = omega arith
-
-out-of-requires : tie.Need-out-of-requires Inv-loop μ-loop
-out-of-requires c κs = omega arith
-
-behind-requires : tie.Need-behind-requires Inv-loop μ-loop
+behind-requires : tie.Need-behind-requires
 behind-requires c κs =
-    let at-loop = c .before .before .before .before in
-    (omega arith, gathered-fits (at-loop .loop .inv .1) (c .before .before .lesser .result) _ (c .out-of .ensures) (omega arith))
+    let args = c .before .before .before .before .before .args in
+    let p = in-parts (args .at) (args .k) _ (c .before .before .before .begun .ensures) in
+    let read = gathered-parts p (omega arith) (c .before .before .gather-piece .ensures) (c .before .gather-bytes .ensures) (c .gather-piece2 .ensures) in
+    (omega arith, gathered-below read 0 64 (lit< tt) (omega arith))
 
-add-done : tie.Need-add-done Inv-loop μ-loop
-add-done c = omega arith
-
-loop-less : tie.Need-loop-less Inv-loop μ-loop
-loop-less c = omega arith
-
-loop-again : tie.Need-loop-again Inv-loop μ-loop
-loop-again c =
-    let at-loop = c .before .before .before .before .before in
-    (omega arith, gathered-more (at-loop .loop .inv .1) _ (c .before .out-of .ensures) (c .behind .ensures) (omega arith) (omega arith))
-
-returns : tie.Need-returns Inv-loop μ-loop
-returns c = rw (le-antisymm (c .before .loop .inv .0) (c .loop-test .left)) at (c .before .loop .inv .1 .made)
+returns : tie.Need-returns
+returns c =
+    let args = c .before .before .before .before .before .before .args in
+    let p = in-parts (args .at) (args .k) _ (c .before .before .before .before .begun .ensures) in
+    c .behind .ensures ∙ gathered-all (gathered-parts p (omega arith) (c .before .before .before .gather-piece .ensures) (c .before .before .gather-bytes .ensures) (c .before .gather-piece2 .ensures))
 
 pub gather-spec : {M : Type 1} → statement M
 gather-spec =
     tie.close
     (tie.spec
-    Inv-loop
-    μ-loop
-    loop-holds
-    add-place
-    sub-room
-    sub-lesser
-    lesser-requires
-    shared-slice-read-out-of
-    cast-out-of
-    sub-out-of
-    out-of-requires
+    begun-requires
+    sub-n
+    sub-left
+    gather-piece-requires
+    add-gather-bytes
+    gather-bytes-requires
+    add-gather-piece
+    sub-gather-piece
+    gather-piece-requires-2
     behind-requires
-    add-done
-    loop-less
-    loop-again
     returns)
