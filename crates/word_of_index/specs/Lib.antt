@@ -5,6 +5,7 @@ pub mod Examples
 pub mod Settling
 pub mod WeightLaws
 pub mod TaskLaws
+pub mod SmallTaskLaws
 pub mod CellLaws
 pub mod SpellingLaws
 pub mod OneWord

@@ -4,10 +4,10 @@ use mathlib.Core.Logic.{⊎-elim}
 use mathlib.Core.Bool.{Bool, true, false, cond}
 use mathlib.Core.List.{List, _∷_}
 use Prim.Native.Nat.{ℕ, zero, suc, _+_, _-_, _*_, _/_, _≤_, _<_}
-use native.Mathlib.Nat.{zero-add, zero-mul, suc-mul, eq-or-lt-of-le, le-refl, le-of-lt, div-mul-le-self, lt-div-mul-add, le-div-iff-mul-le}
+use native.Mathlib.Nat.{zero-add, zero-mul, suc-mul, eq-or-lt-of-le, lt-div-mul-add}
 use native.Mathlib.Omega.{arith}
 use lib.Dec.{leb}
-use borrow.Author.Tests.{leb-true, leb-false, lt-ltb, le-ltb}
+use borrow.Author.Tests.{lt-ltb, le-ltb}
 use Rattle.patterns.specs.Walk.{walk, mayStand, guardAfter}
 use Rattle.listing.specs.Listing.{Settled, settle, levelsFrom, levels, countOf, behind, wordOf}
 use Rattle.listing.specs.Sums.{sum-const}
@@ -15,6 +15,7 @@ use Rattle.listing.specs.FirstCell.{count-by-first, count-same, count-none}
 use Rattle.code.specs.Code.{belowTop}
 use Rattle.code.specs.Stretches.{following, following-low}
 use Rattle.division.specs.Division.{timesIn}
+use Rattle.division.specs.DivisionLaws.{times-few, times-inside}
 
 -- A weight goes k times into an index, at most cap times.
 pub record Goes (cap i w k : ℕ) : Type 0 where
@@ -119,10 +120,8 @@ module _ (t x g n i k : ℕ) (goes : Goes t i (following t x (g - 1) n) k) (belo
 -- The times that a weight goes into an index are those of the division.
 pub times-go : (cap i w : ℕ) → 0 < w → Goes cap i w (timesIn cap i w)
 unfolding timesIn
-times-go cap i w l = go (leb (i / w) cap) refl
+times-go cap i w l = record { within = times-inside cap i w l; most = times-few cap i w; last = go (leb (i / w) cap) }
   where
-    go : (b : Bool) → leb (i / w) cap ≡ b → Goes cap i w (cond b (i / w) cap)
-    go true e = record { within = div-mul-le-self i w; most = leb-true _ _ e; last = λ h. rw suc-mul (lt-div-mul-add l) }
-    go false e =
-        let less = leb-false _ _ e in
-        record { within = le-div-iff-mul-le l .0 (le-of-lt less); most = le-refl cap; last = λ h. absurd (omega arith) }
+    go : (b : Bool) → cond b (i / w) cap < cap → i < suc (cond b (i / w) cap) * w
+    go true h = rw suc-mul (lt-div-mul-add l)
+    go false h = absurd (omega arith)

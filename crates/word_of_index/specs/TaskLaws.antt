@@ -80,10 +80,12 @@ module _ {q x guard left : ℕ} {table : List ℕ} {n : ℕ} {rest : List ℕ} (
   least : 1 < q
   least = task .levels .least
 
-  fewer-fit : (i : ℕ) → i ≤ left → N q x i < base ^ n
+  -- The counts of fewer cells fit too, ..
+  pub fewer-fit : (i : ℕ) → i ≤ left → N q x i < base ^ n
   fewer-fit i l = lt-of-le-of-lt (counts-rise q x i left least l) (task .fits)
 
-  row-right : (i : ℕ) → i ≤ left → numberAt n table (10 * i) ≡ N q x i
+  -- .. and stand in the n lowest limbs of their rows.
+  pub row-right : (i : ℕ) → i ≤ left → numberAt n table (10 * i) ≡ N q x i
   row-right = row-stands q x left n table least (task .belongs) (task .few) (task .fits)
 
   -- The task by the limbs that its largest count uses.
@@ -133,7 +135,8 @@ module _ {q x guard left : ℕ} {table : List ℕ} {n : ℕ} {rest : List ℕ} (
         let small = lt-of-le-of-lt (weight-within q x guard i least) (fewer-fit i (omega arith)) in
         rw held (numberAt-holding-below n (replicate 10 0) small)
 
-    next-task : {level : ℕ} {after : List ℕ} → level ≡ levelOf q x guard left (numberAt n rest 0)
+    -- A settled level leaves the next task.
+    pub next-task : {level : ℕ} {after : List ℕ} → level ≡ levelOf q x guard left (numberAt n rest 0)
         → after ≡ holding n (leftBy q x guard left (numberAt n rest 0)) rest → Next q x guard left table n (numberAt n rest 0) level after
     next-task {level} {after} e f =
         let i = numberAt n rest 0 in

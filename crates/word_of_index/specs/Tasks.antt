@@ -1,5 +1,5 @@
 -- The shorter tasks that a word is spelt by: some cells are settled, the others are still to be written.
-use mathlib.Core.List.{List}
+use mathlib.Core.List.{List, [], _∷_}
 use Prim.Native.Nat.{ℕ, _+_, _-_, _^_, min, _≤_, _<_}
 use lib.ListN.{length}
 use Rattle.limbs.specs.Limbs.{base, numberAt}
@@ -41,3 +41,7 @@ pub record Task (q x guard left : ℕ) (table : List ℕ) (n : ℕ) (rest : List
   pub room : n ≤ length rest
   pub fits : N q x left < base ^ n
   pub below : numberAt n rest 0 < following (q - 1) x guard left
+
+-- A task whose counts all fit one limb, at the index i.
+abbrev pub SmallTask : ℕ → ℕ → ℕ → ℕ → List ℕ → ℕ → Type 0
+SmallTask q x guard left table i = Task q x guard left table 1 (i ∷ [])

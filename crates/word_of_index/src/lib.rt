@@ -11,7 +11,7 @@ ghost use Rattle.patterns.specs.Walk.{guardAfter};
 ghost use Rattle.code.specs.Code.{published, N, word};
 ghost use Rattle.tables.specs.Tables.{Belongs};
 ghost use Rattle.word_of_index.specs.Spelling.{indexRefusal, spelling};
-ghost use Rattle.word_of_index.specs.Tasks.{wordBehind, lowCells, levelOf, leftBy, Task};
+ghost use Rattle.word_of_index.specs.Tasks.{wordBehind, weightBehind, lowCells, levelOf, leftBy, Task, SmallTask};
 use limbs::Order;
 use numbers::Index;
 use replies::Profile;
@@ -87,6 +87,50 @@ fn guard_behind(p: Profile, guard: usize, level: u64) -> usize
     guard - 1
 }
 
+// The weight of the leftmost of `left` cells, where the counts fit one limb.
+fn small_weight(p: Profile, table: &[u64], guard: usize, left: usize) -> u64
+    requires { ⌜ SmallTask (p .q) (p .x) guard left (now table) 0 × (0 < left) ⌝ }
+    ensures { λ r. ⌜ r ≡ weightBehind (p .q) (p .x) guard (left - 1) ⌝ }
+{
+    if 1 < guard {
+        let k = low_cells(guard, left - 1);
+        return table[10 * (left - 1 - k)] * tables::weights::power((p.q - 1) as u64, k);
+    }
+    table[10 * (left - 1)]
+}
+
+// Writes the last `left` cells of a word to `out` from `at` on, where the counts fit one limb: the
+// leftmost level is settled, and what is left of the index `rest` is that of the shorter task behind it.
+fn settle_small(
+    p: Profile,
+    table: &[u64],
+    rest: u64,
+    out: &mut [u8],
+    at: usize,
+    guard: usize,
+    left: usize,
+)
+    requires { ⌜ SmallTask (p .q) (p .x) guard left (now table) rest × (at + left ≤ length (now out)) ⌝ }
+    ensures { λ _. ⌜ now (out .exit) ≡ take at (now (out .entry)) ++ (wordBehind (p .q) (p .x) guard left rest ++ drop (at + left) (now (out .entry))) ⌝ }
+{
+    if left == 0 {
+        return;
+    }
+    let weight = small_weight(p, table, guard, left);
+    let level = division::goes_in(rest, weight, (p.q - 1) as u64);
+    out[at] = level as u8;
+    let behind = guard_behind(p, guard, level);
+    settle_small(
+        p,
+        table,
+        rest - level * weight,
+        out,
+        at + 1,
+        behind,
+        left - 1,
+    );
+}
+
 // Writes the last `left` cells of a word to `out` from `at` on: the leftmost level is settled, and the
 // rest is the shorter task behind it.
 fn settle_cells(
@@ -106,6 +150,10 @@ fn settle_cells(
         return;
     }
     let used = limbs::limbs_used(table, 10 * left, n);
+    if used <= 1 {
+        settle_small(p, table, rest[0], out, at, guard, left);
+        return;
+    }
     let level = settle_level(p, table, rest, used, guard, left);
     out[at] = level as u8;
     settle_cells(
