@@ -39,6 +39,9 @@ fn gather(bytes: &[u8], at: usize, k: usize) -> u64
     requires { ⌜ (at + k ≤ 8 * length (now bytes)) × (at + k < 2 ^ 32) × (k ≤ 64) ⌝ }
     ensures { λ r. ⌜ r ≡ numberOf (take k (drop at (bitsOfBytes (now (bytes .entry))))) ⌝ }
 {
+    if k == 0 {
+        return 0;
+    }
     let begun = piece::begun(at, k);
     let n = (k - begun) / 8;
     let left = (k - begun) % 8;
