@@ -9,7 +9,7 @@ const WORDS: usize = 256;
 const RUN: usize = 65_536;
 
 /// The profiles that are measured, each with the ratio that writing may have at most.
-const PROFILES: [(Profile, f64); 4] = [
+pub const PROFILES: [(Profile, f64); 4] = [
     (input::profile(4, 97, 1), 0.80),
     (input::profile(4, 14, 1), 0.40),
     (input::profile(8, 103, 1), 0.65),
@@ -29,7 +29,7 @@ pub struct Case {
 /// A case of a profile.
 fn case(call: &str, p: Profile, bound: Option<f64>, pair: Pair) -> Case {
     Case {
-        name: format!("{call}, q={} m={} x={}", p.q, p.m, p.x),
+        name: format!("{call}, {}", input::name(p)),
         bound,
         pair,
     }

@@ -1,55 +1,54 @@
 //! How the cost grows: cells a second over the words of a stream and over the length of a word.
 
-use crate::calls::Pair;
+use crate::cases::PROFILES;
+use crate::timing::Times;
 use crate::{calls, input, timing};
 use peer::Profile;
 
-/// The profiles whose streams grow, and the words that they grow to.
-const PROFILES: [Profile; 4] = [
-    input::profile(4, 97, 1),
-    input::profile(4, 14, 1),
-    input::profile(8, 103, 1),
-    input::profile(32, 117, 1),
-];
+/// The words that streams grow to.
 const WORDS: [usize; 3] = [1, 16, 256];
 
 /// The lengths that words grow to, at q = 4 and x = 1, in streams of 256 words.
 const LENGTHS: [usize; 6] = [4, 8, 16, 32, 64, 128];
 
-/// Millions of cells a second, of the library and of the peer.
-fn rates(cells: usize, mut pair: Pair) -> (f64, f64) {
-    let (library, peer) = timing::times(&mut pair);
-    let rate = |seconds: f64| cells as f64 / seconds / 1e6;
-    (rate(library), rate(peer))
+/// Every stream that is measured: its profile and its words.
+fn streams() -> Vec<(Profile, usize)> {
+    let over_words = PROFILES
+        .into_iter()
+        .flat_map(|(p, _)| WORDS.map(|n| (p, n)));
+    let over_length = LENGTHS
+        .into_iter()
+        .map(|m| (input::profile(4, m, 1), WORDS[2]));
+    over_words.chain(over_length).collect()
 }
 
-/// One line: a stream of n words, read and written.
-fn line(p: Profile, n: usize) {
-    let cells = input::stream_cells(p, n);
-    let read = rates(cells, calls::reading(p, n));
-    let write = rates(cells, calls::writing(p, n));
-    println!(
-        "{:<22} {:>5} {:>10.1} {:>8.1} {:>10.1} {:>8.1}",
-        format!("q={} m={} x={}", p.q, p.m, p.x),
-        n,
-        read.0,
-        read.1,
-        write.0,
-        write.1
-    );
+/// Millions of cells a second, of the library and of the peer.
+fn rates(cells: usize, times: Times) -> String {
+    let rate = |seconds: f64| cells as f64 / seconds / 1e6;
+    format!("{:>10.1} {:>8.1}", rate(times.library), rate(times.peer))
 }
 
 /// Prints the table.
 pub fn print() {
-    println!("\nmillions of cells a second       read              write");
+    let streams = streams();
+    let mut reading: Vec<_> = streams.iter().map(|&(p, n)| calls::reading(p, n)).collect();
+    let mut writing: Vec<_> = streams.iter().map(|&(p, n)| calls::writing(p, n)).collect();
+    let (read, write) = (
+        timing::times(reading.iter_mut()),
+        timing::times(writing.iter_mut()),
+    );
+    println!("\nmillions of cells a second         read              write");
     println!(
-        "{:<22} {:>5} {:>10} {:>8} {:>10} {:>8}",
+        "{:<18} {:>5} {:>10} {:>8} {:>10} {:>8}",
         "profile", "words", "library", "peer", "library", "peer"
     );
-    for p in PROFILES {
-        WORDS.into_iter().for_each(|n| line(p, n));
+    for (&(p, n), (read, write)) in streams.iter().zip(read.into_iter().zip(write)) {
+        let cells = input::stream_cells(p, n);
+        println!(
+            "{:<18} {n:>5} {} {}",
+            input::name(p),
+            rates(cells, read),
+            rates(cells, write)
+        );
     }
-    LENGTHS
-        .into_iter()
-        .for_each(|m| line(input::profile(4, m, 1), WORDS[2]));
 }

@@ -2,9 +2,14 @@
 
 use peer::Profile;
 
-/// A published profile, and any other one.
+/// A profile.
 pub const fn profile(q: usize, m: usize, x: usize) -> Profile {
     Profile { q, m, x }
+}
+
+/// A profile in short.
+pub fn name(p: Profile) -> String {
+    format!("q={} m={} x={}", p.q, p.m, p.x)
 }
 
 /// The profile as the library takes it.

@@ -16,20 +16,20 @@ use std::env;
 
 /// Prints the time of every case.
 fn print_times(cases: &mut [Case]) {
+    let all = timing::times(cases.iter_mut().map(|case| &mut case.pair));
     println!(
         "{:<30} {:>12} {:>12} {:>7} {:>8}",
         "time", "library", "peer", "ratio", "at most"
     );
-    for case in cases {
-        let (library, peer) = timing::times(&mut case.pair);
+    for (case, times) in cases.iter().zip(all) {
         let bound = case
             .bound
             .map_or(String::from("-"), |bound| format!("{bound:.2}"));
-        let (micros, peer_micros) = (library * 1e6, peer * 1e6);
+        let (micros, peer_micros) = (times.library * 1e6, times.peer * 1e6);
+        let ratio = times.library / times.peer;
         println!(
-            "{:<30} {micros:>9.2} us {peer_micros:>9.2} us {:>7.3} {bound:>8}",
-            case.name,
-            library / peer
+            "{:<30} {micros:>9.2} us {peer_micros:>9.2} us {ratio:>7.3} {bound:>8}",
+            case.name
         );
     }
 }
