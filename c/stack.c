@@ -1,7 +1,7 @@
-/* The stack that each call takes, measured: the call is made on a thread whose stack was filled with one byte before, and
- * what no longer holds that byte was used; what a thread uses that makes no call is taken off. The inputs are the longest
- * ones, of the profiles below, as they are and with the last cell damaged; what takes most counts. Ends with 1 if a call takes
- * more than the header says. */
+/* The stack that each call takes, measured: the call is made on a thread whose stack was filled with one byte
+ * before, and what no longer holds that byte was used; what a thread uses that makes no call is taken off. The
+ * inputs are the longest ones, of the profiles below, as they are and with the last cell damaged; what takes most
+ * counts. Ends with 1 if a call takes more than the header says. */
 #define _POSIX_C_SOURCE 200809L
 #include "remizutogya.h"
 
