@@ -1,19 +1,18 @@
--- Laws of the check: what a row that is found right or wrong says of the whole table.
-use mathlib.Core.Path.{_≡_, sym, _∙_}
+-- Laws of the check: how a row is compared with a number, and what a row that is found right or wrong says of the whole table.
+use mathlib.Core.Path.{_≡_, sym, ap, _∙_}
 use mathlib.Core.Bool.{Bool, true, false, not}
 use mathlib.Core.List.{List}
-use Prim.Native.Nat.{ℕ, _+_, _*_, _≤_, zero-le}
-use native.Mathlib.Nat.{le-of-eq}
+use mathlib.Core.Logic.{⊎-elim}
+use Prim.Native.Nat.{ℕ, zero, suc, _+_, _*_, _/_, _%_, _^_, _≤_, _<_, zero-le}
+use native.Mathlib.Nat.{le-of-eq, eq-or-lt-of-le, not-suc-le-zero, zero-add, add-mul-div-left, add-mul-mod-self-left, div-eq-of-lt, mod-eq-of-lt}
+use native.Mathlib.Numerals.{add-one}
 use native.Mathlib.Omega.{arith}
 use lib.Dec.{eqb}
-use lib.ListN.{length}
+use lib.ListN.{length, getD}
 use borrow.Author.Tests.{eqb-true, eq-eqb, ne-eqb}
-use Rattle.limbs.specs.declared.Order.{Order}
-use Rattle.limbs.specs.declared.Order.the-variants.{Less, Equal, Greater}
-use Rattle.limbs.specs.Limbs.{value, numberAt, orderOf}
+use Rattle.limbs.specs.Limbs.{base, allLimbs, value, numberAt}
 use Rattle.limbs.specs.HoldingLaws.{numberAt-all}
-use Rattle.limbs.specs.OrderLaws.{Ordered, order-says}
-use Rattle.limbs.specs.ValueLaws.{value-limbsOf-below}
+use Rattle.limbs.specs.ValueLaws.{power-positive, value-limbsOf-below, numberAt-more, numberAt-below}
 use Rattle.replies.specs.declared.Profile.{Profile}
 use Rattle.replies.specs.Replies.{refused}
 use Rattle.replies.specs.ReplyLaws.{InRange}
@@ -23,22 +22,42 @@ use Rattle.tables.specs.TableLaws.{not-wrong, not-right, table-wrong, be
 use Rattle.tables.specs.Counting.{one, Advanced}
 use Rattle.tables.specs.CountingLaws.{one-word, count-in-ten}
 
--- Two numbers differ where one is the larger.
-abbrev pub differ : Order → Bool
-differ Less = true
-differ Equal = false
-differ Greater = true
+-- Two numbers of n limbs that are the same have the same limb at each place.
+same-limbs : (n : ℕ) (l : List ℕ) (at : ℕ) (r : List ℕ) (to : ℕ) → allLimbs l → allLimbs r → numberAt n l at ≡ numberAt n r to
+    → (k : ℕ) → k < n → getD l (at + k) 0 ≡ getD r (to + k) 0
+same-limbs zero l at r to allL allR same k inside = absurd (not-suc-le-zero inside)
+same-limbs (suc n) l at r to allL allR same k inside =
+    let split = sym (numberAt-more n l at) ∙ same ∙ numberAt-more n r to in
+    let smallL = numberAt-below n l at allL in
+    let smallR = numberAt-below n r to allR in
+    ⊎-elim
+    (λ (e : k ≡ n). rw e (sym (above-part _ smallL) ∙ ap (λ (v : ℕ). v / base ^ n) split ∙ above-part _ smallR))
+    (λ (less : k < n). same-limbs n l at r to allL allR (sym (below-part _ smallL) ∙ ap (λ (v : ℕ). v % base ^ n) split ∙ below-part _ smallR) k less)
+    (eq-or-lt-of-le {n = k} {m = n} (omega arith))
+  where
+    above-part : {low : ℕ} (limb : ℕ) → low < base ^ n → (low + base ^ n * limb) / base ^ n ≡ limb
+    above-part {low} limb small = rw (add-mul-div-left low limb (power-positive n), div-eq-of-lt small, zero-add)
 
-differ-ordered : (order : Order) (a b : ℕ) → Ordered a b order → differ order ≡ not (eqb b a)
-differ-ordered Less a b l = rw (ne-eqb b a (omega arith))
-differ-ordered Equal a b e = rw (eq-eqb b a (sym e))
-differ-ordered Greater a b l = rw (ne-eqb b a (omega arith))
+    below-part : {low : ℕ} (limb : ℕ) → low < base ^ n → (low + base ^ n * limb) % base ^ n ≡ low
+    below-part {low} limb small = add-mul-mod-self-left low (base ^ n) limb ∙ mod-eq-of-lt small
 
--- What the comparison of a number of ten limbs with a row found.
-pub row-compared : (number : List ℕ) (row : ℕ) {order found : Order} → length number ≡ 10 → order ≡ orderOf (numberAt 10 number 0) row → order ≡ found
-    → differ found ≡ not (eqb row (value number))
-row-compared number row {order} {found} ten e f =
-    rw (← f, ← numberAt-all 10 number (le-of-eq ten)) (differ-ordered order (numberAt 10 number 0) row (order-says (numberAt 10 number 0) row e))
+-- A number of ten limbs is compared with a row, from the lowest limb up.
+module _ (number table : List ℕ) (at : ℕ) where
+  -- Where limb k is the same, the first k + 1 limbs are.
+  pub limb-same : (k : ℕ) → numberAt k number 0 ≡ numberAt k table at → getD number k 0 ≡ getD table (at + k) 0
+      → numberAt (k + 1) number 0 ≡ numberAt (k + 1) table at
+  limb-same k same e = rw (add-one, numberAt-more k number 0, zero-add, numberAt-more k table at, same, e)
+
+  -- Where a limb differs, the row does not hold the number.
+  pub limb-differs : {k : ℕ} → length number ≡ 10 → allLimbs number → allLimbs table → k < 10 → (getD number k 0 ≡ getD table (at + k) 0 → ⊥)
+      → true ≡ not (eqb (numberAt 10 table at) (value number))
+  limb-differs {k} ten allN allT inside other =
+      let whole = numberAt-all 10 number (le-of-eq ten) in
+      rw (ne-eqb (numberAt 10 table at) (value number) (λ e. other (rw zero-add at (same-limbs 10 number 0 table at allN allT (whole ∙ sym e) k inside))))
+
+  -- Where the ten limbs are the same, it does.
+  pub limbs-same : length number ≡ 10 → numberAt 10 number 0 ≡ numberAt 10 table at → false ≡ not (eqb (numberAt 10 table at) (value number))
+  limbs-same ten same = rw (eq-eqb (numberAt 10 table at) (value number) (sym same ∙ numberAt-all 10 number (le-of-eq ten)))
 
 -- Row i was compared with N(i): it is wrong or right.
 module _ {p : Profile} (table : List ℕ) (range : InRange p) (long : tableLength (p .m) ≤ length table) where

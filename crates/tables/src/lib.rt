@@ -8,7 +8,6 @@ ghost use Rattle.limbs.specs.Limbs.{value, numberAt};
 ghost use Rattle.replies.specs.Replies.{orElse, roomRefusal};
 ghost use Rattle.replies.specs.ReplyLaws.{InRange};
 ghost use Rattle.tables.specs.Tables.{tableLength, tableRefusal, building, handingOut};
-use limbs::Order;
 use replies::Profile;
 use replies::Reply;
 use replies::Written;
@@ -23,11 +22,14 @@ fn row_wrong(number: &[u64], table: &[u64], i: usize) -> bool
     requires { ⌜ (length (now number) ≡ 10) × (tableLength i ≤ length (now table)) ⌝ }
     ensures { λ r. ⌜ r ≡ not (eqb (numberAt 10 (now (table .entry)) (10 * i)) (value (now (number .entry)))) ⌝ }
 {
-    match limbs::compare(number, 10, table, 10 * i) {
-        Order::Equal => false,
-        Order::Less => true,
-        Order::Greater => true,
+    let mut k = 0;
+    while k < 10 {
+        if number[k] != table[10 * i + k] {
+            return true;
+        }
+        k += 1;
     }
+    false
 }
 
 // Numbers 5 and 6: a table that is too short, or that does not belong to the profile, at its first

@@ -1,53 +1,83 @@
--- `tables::row_wrong` meets its contract: a row is right where neither number is the larger.
-use Prim.Native.Nat.{_*_}
-use borrow.Author.Needs.{needs}
+-- `tables::row_wrong` meets its contract. The loop's invariant: the first k limbs of the number and of the row are the same.
+use mathlib.Core.Path.{_≡_, refl}
+use Prim.Native.Nat.{_-_, _*_, _≤_}
+use native.Mathlib.Nat.{le-antisymm}
+use native.Mathlib.Omega.{arith}
 use Rattle.limbs.specs.Limbs.{numberAt}
-use Rattle.tables.specs.CheckLaws.{row-compared}
+use Rattle.tables.specs.CheckLaws.{limb-same, limb-differs, limbs-same}
 use Rattle.tables.proofs.row_wrong.Statement.{statement}
 use Rattle.tables.proofs.row_wrong.Tie as tie
 
-mul-compare : tie.Need-mul-compare
-mul-compare c = search needs
+abbrev Inv-loop : tie.InvT-loop
+Inv-loop number table i k₀ k = (k ≤ 10) × (numberAt k number 0 ≡ numberAt k table (10 * i))
 
-compare-requires : tie.Need-compare-requires
-compare-requires c κs = search needs
+abbrev μ-loop : tie.MeasureT-loop
+μ-loop number table i k₀ k = 10 - k
 
-enum-told : tie.Need-enum-told
-enum-told c = search needs
+loop-holds : tie.Need-loop-holds Inv-loop μ-loop
+unfolding numberAt
+loop-holds c = (omega arith, refl)
 
-enum-told-2 : tie.Need-enum-told-2
-enum-told-2 c = search needs
+mul-if1 : tie.Need-mul-if1 Inv-loop μ-loop
+mul-if1 c = omega arith
 
-enum-told-3 : tie.Need-enum-told-3
-enum-told-3 c = search needs
+shared-slice-read-if1 : tie.Need-shared-slice-read-if1 Inv-loop μ-loop
+shared-slice-read-if1 c = omega arith
 
-returns : tie.Need-returns
+mul-if1-2 : tie.Need-mul-if1-2 Inv-loop μ-loop
+mul-if1-2 c = omega arith
+
+add-if1 : tie.Need-add-if1 Inv-loop μ-loop
+add-if1 c = omega arith
+
+mul-if1-3 : tie.Need-mul-if1-3 Inv-loop μ-loop
+mul-if1-3 c = omega arith
+
+shared-slice-read-if1-2 : tie.Need-shared-slice-read-if1-2 Inv-loop μ-loop
+shared-slice-read-if1-2 c = omega arith
+
+returns : tie.Need-returns Inv-loop μ-loop
 returns c =
-    let s = c .before .before .before .before .before in
-    row-compared (s .args .number .now) (numberAt 10 (s .args .table .now) (10 * s .args .i)) (s .pre .0) (c .before .before .compare .ensures)
-    (c .enum-told .given .1)
+    let l = c .before .before .before .before in
+    let s = l .before in
+    limb-differs (s .args .number .now) (s .args .table .now) (10 * s .args .i) (s .pre .0)
+    (λ j. c .before .before .shared-slice-known .given j .fits) (λ j. c .before .shared-slice-known2 .given j .fits)
+    (omega arith) (c .if1 .taken)
 
-returns-2 : tie.Need-returns-2
+add-k : tie.Need-add-k Inv-loop μ-loop
+add-k c = omega arith
+
+loop-less : tie.Need-loop-less Inv-loop μ-loop
+loop-less c = omega arith
+
+loop-again : tie.Need-loop-again Inv-loop μ-loop
+loop-again c =
+    let l = c .before .before .before .before in
+    let s = l .before .args in
+    (omega arith, limb-same (s .number .now) (s .table .now) (10 * s .i) (l .loop .k) (l .loop .inv .1) (c .if1 .left))
+
+returns-2 : tie.Need-returns-2 Inv-loop μ-loop
 returns-2 c =
-    let s = c .before .before .before .before .before in
-    row-compared (s .args .number .now) (numberAt 10 (s .args .table .now) (10 * s .args .i)) (s .pre .0) (c .before .before .compare .ensures)
-    (c .enum-told2 .given .1)
-
-returns-3 : tie.Need-returns-3
-returns-3 c =
-    let s = c .before .before .before .before .before in
-    row-compared (s .args .number .now) (numberAt 10 (s .args .table .now) (10 * s .args .i)) (s .pre .0) (c .before .before .compare .ensures)
-    (c .enum-told3 .given .1)
+    let l = c .before in
+    let s = l .before in
+    let past = le-antisymm (l .loop .inv .0) (c .loop-test .left) in
+    limbs-same (s .args .number .now) (s .args .table .now) (10 * s .args .i) (s .pre .0) (rw past at (l .loop .inv .1))
 
 pub row-wrong-spec : {M : Type 1} → statement M
 row-wrong-spec =
     tie.close
     (tie.spec
-    mul-compare
-    compare-requires
-    enum-told
-    enum-told-2
-    enum-told-3
+    Inv-loop
+    μ-loop
+    loop-holds
+    mul-if1
+    shared-slice-read-if1
+    mul-if1-2
+    add-if1
+    mul-if1-3
+    shared-slice-read-if1-2
     returns
-    returns-2
-    returns-3)
+    add-k
+    loop-less
+    loop-again
+    returns-2)
