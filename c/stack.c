@@ -1,7 +1,8 @@
 /* The stack that each call takes, measured: the call is made on a thread whose stack was filled with one byte
  * before, and what no longer holds that byte was used; what a thread uses that makes no call is taken off. The
- * inputs are the longest ones, of the profiles below, as they are and with the last cell damaged; what takes most
- * counts. Ends with 1 if a call takes more than the header says. */
+ * inputs are the longest ones, of the profiles below: streams as they are written, of words with as many tops as a
+ * message allows, and with the last cell damaged; what takes most counts. Ends with 1 if a call takes more than the
+ * header says. */
 #define _POSIX_C_SOURCE 200809L
 #include "remizutogya.h"
 
@@ -98,6 +99,16 @@ static void make_ready(remi_profile profile)
     must(whole == REMI_STREAM_CELLS(p.m, p.x, REMI_MOST_WORDS), "no stream");
 }
 
+/* A stream whose words are two cells of 0 and then all top: the bridges are 0. */
+static void fill_with_tops(void)
+{
+    for (size_t i = 0; i < whole; i++) {
+        size_t in_word = i % (p.m + p.x);
+        cells[i] = in_word < 2 || in_word >= p.m ? 0 : (uint8_t)(p.q - 1);
+    }
+    must(remi_read_stream(p, table, TABLE_ROOM, cells, whole, out, CELL_ROOM).reply.number == REMI_DONE, "no such stream");
+}
+
 /* Raises what each call takes at most to what it takes now. */
 static void measure(uint8_t *stack, size_t most[CALLS])
 {
@@ -117,6 +128,8 @@ int main(void)
         bytes[i] = (uint8_t)(i * i / 7 + i);
     for (size_t k = 0; k < sizeof profiles / sizeof *profiles; k++) {
         make_ready(profiles[k]);
+        measure(stack, most);
+        fill_with_tops();
         measure(stack, most);
         cells[whole - 1] = UINT8_MAX;
         measure(stack, most);
