@@ -84,7 +84,6 @@ module _ {q x n : ℕ} {table cells sum : List ℕ} (s : Indexable q x n table c
     combinable span = record {
       limbs = s .limbs;
       lent = s .lent;
-      few = rw kept (s .short);
       spans = span .some .most;
       long = omega (arith, s .belongs .long, kept);
       small = λ j r below inside. rw (s .belongs .rows r (omega (arith, kept))) (row-fits q x j (s .levels .least) span below);

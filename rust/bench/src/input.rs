@@ -47,7 +47,7 @@ impl Random {
 
 /// The table of a profile.
 pub fn table(p: Profile) -> Vec<u64> {
-    let mut rows = vec![0; 10 * (p.m + 1)];
+    let mut rows = vec![0; remizutogya::table_limbs(p.m)];
     assert_eq!(peer::build(p, &mut rows).number, 0);
     rows
 }
@@ -68,7 +68,7 @@ pub fn messages(p: Profile, table: &[u64], n: usize) -> (Vec<u8>, usize) {
 
 /// The cells of a stream of n words.
 pub fn stream_cells(p: Profile, n: usize) -> usize {
-    n * (p.m + p.x) - p.x
+    remizutogya::stream_cells(lent(p), n)
 }
 
 /// A stream of n words that carry random messages.
