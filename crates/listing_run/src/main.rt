@@ -34,16 +34,16 @@ fn case(text: &[u8], at: usize, out: &mut [u8]) -> usize {
     let shown = script::number(text, room.next);
     let mut line = [0u8; 40];
     let given = script::runs(text, shown.next, &mut line);
-    let read = script::first_cells(&line, script::count(given.value, 40));
+    let read = parts::first_cells(&line, script::count(given.value, 40));
     let n = script::count(shown.value, MOST);
     mark(out, n);
     let written = list(read, out, script::count(room.value, MOST));
     show::reply(written.reply);
     show::count(written.count);
-    show::digest_of_cells(script::first_cells(out, n));
+    show::digest_of_cells(parts::first_cells(out, n));
     show::end();
     if written.count < SHORT {
-        io::write_all(1, script::first_cells(out, written.count));
+        io::write_all(1, parts::first_cells(out, written.count));
     }
     given.next
 }

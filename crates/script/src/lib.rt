@@ -61,22 +61,6 @@ pub fn count(n: u64, most: usize) -> usize
     most
 }
 
-// The first n limbs, or all where there are fewer.
-pub fn first_limbs(limbs: &[u64], n: usize) -> &[u64] {
-    if limbs.len() <= n {
-        return limbs;
-    }
-    &limbs[..n]
-}
-
-// The first n cells, or all where there are fewer.
-pub fn first_cells(cells: &[u8], n: usize) -> &[u8] {
-    if cells.len() <= n {
-        return cells;
-    }
-    &cells[..n]
-}
-
 // Fills cells with runs: how many runs, then for each its level and how many
 // cells. The number of all cells together, as far as there is room, is the value.
 pub fn runs(script: &[u8], at: usize, cells: &mut [u8]) -> Read {

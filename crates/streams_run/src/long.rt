@@ -49,7 +49,7 @@ pub fn stream(text: &[u8], at: usize) -> usize {
     let given = given::profile(text, at);
     let mut table = [0u64; 1300];
     let limbs = script::number(text, given::table(text, given.next, &mut table));
-    let rows = script::first_limbs(&table, script::count(limbs.value, 1300));
+    let rows = parts::first_limbs(&table, script::count(limbs.value, 1300));
     let seed = script::number(text, limbs.next);
     let n = script::number(text, seed.next);
     let bits = script::number(text, n.next);
@@ -57,7 +57,7 @@ pub fn stream(text: &[u8], at: usize) -> usize {
     let level = script::number(text, place.next);
     let mut bytes = [0u8; 20480];
     draw(seed.value, &mut bytes);
-    let messages = script::first_cells(&bytes, script::count(n.value, 20480));
+    let messages = parts::first_cells(&bytes, script::count(n.value, 20480));
     let mut cells = [0u8; 35000];
     show::mark_cells(&mut cells);
     let w = write_stream::write(
@@ -70,6 +70,6 @@ pub fn stream(text: &[u8], at: usize) -> usize {
     written(w, &cells);
     change(&mut cells, place.value, level.value);
     let k = script::count(w.count as u64, MOST);
-    stream_given(given.profile, rows, script::first_cells(&cells, k));
+    stream_given(given.profile, rows, parts::first_cells(&cells, k));
     level.next
 }

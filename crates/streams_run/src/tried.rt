@@ -29,13 +29,13 @@ pub fn write(text: &[u8], at: usize) -> usize {
     show::mark_cells(&mut out);
     let w = lent::write(
         given.profile,
-        script::first_limbs(&table, n),
-        script::first_cells(&bytes, script::count(b.value, MOST)),
+        parts::first_limbs(&table, n),
+        parts::first_cells(&bytes, script::count(b.value, MOST)),
         bits.value as usize,
         &mut out,
         k,
     );
-    written(w, script::first_cells(&out, k));
+    written(w, parts::first_cells(&out, k));
     room.next
 }
 
@@ -52,12 +52,12 @@ pub fn read(text: &[u8], at: usize) -> usize {
     show::mark_cells(&mut out);
     let w = lent::read(
         given.profile,
-        script::first_limbs(&table, n),
-        script::first_cells(&cells, script::count(c.value, MOST)),
+        parts::first_limbs(&table, n),
+        parts::first_cells(&cells, script::count(c.value, MOST)),
         &mut out,
         k,
     );
-    written(w, script::first_cells(&out, k));
+    written(w, parts::first_cells(&out, k));
     room.next
 }
 
@@ -73,12 +73,12 @@ pub fn join(text: &[u8], at: usize) -> usize {
     show::mark_cells(&mut out);
     let w = lent::join(
         given.profile,
-        script::first_cells(&first, script::count(a.value, MOST)),
-        script::first_cells(&second, script::count(b.value, MOST)),
+        parts::first_cells(&first, script::count(a.value, MOST)),
+        parts::first_cells(&second, script::count(b.value, MOST)),
         &mut out,
         k,
     );
-    written(w, script::first_cells(&out, k));
+    written(w, parts::first_cells(&out, k));
     room.next
 }
 
@@ -92,10 +92,10 @@ pub fn turn(text: &[u8], at: usize) -> usize {
     show::mark_cells(&mut out);
     let w = lent::turn(
         given.profile,
-        script::first_cells(&cells, script::count(c.value, MOST)),
+        parts::first_cells(&cells, script::count(c.value, MOST)),
         &mut out,
         k,
     );
-    written(w, script::first_cells(&out, k));
+    written(w, parts::first_cells(&out, k));
     room.next
 }

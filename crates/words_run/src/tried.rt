@@ -67,8 +67,8 @@ pub fn index(text: &[u8], at: usize) -> usize {
     let k = script::count(c.value, 200);
     let r = index_of_word::index(
         given.profile,
-        script::first_limbs(&table, n),
-        script::first_cells(&cells, k),
+        parts::first_limbs(&table, n),
+        parts::first_cells(&cells, k),
     );
     show::reply(r.reply);
     let limbs = r.index.0;
@@ -98,14 +98,14 @@ pub fn word(text: &[u8], at: usize) -> usize {
     let i = Index(limbs);
     let w = word_in(
         given.profile,
-        script::first_limbs(&table, n),
+        parts::first_limbs(&table, n),
         i,
         &mut cells,
         k,
     );
     show::reply(w.reply);
     show::count(w.count);
-    show::cells(script::first_cells(&cells, k));
+    show::cells(parts::first_cells(&cells, k));
     show::end();
     room.next
 }
@@ -119,7 +119,7 @@ pub fn find(text: &[u8], at: usize) -> usize {
     show::reply(cells::find(
         q.value as usize,
         x.value as usize,
-        script::first_cells(&cells, k),
+        parts::first_cells(&cells, k),
     ));
     show::end();
     c.next
@@ -145,7 +145,7 @@ pub fn rate(text: &[u8], at: usize) -> usize {
     let words = script::number(text, lent.next);
     let r = catalogue::rate_of_words(
         given.profile,
-        script::first_limbs(&table, n),
+        parts::first_limbs(&table, n),
         words.value as usize,
     );
     show::reply(r.reply);

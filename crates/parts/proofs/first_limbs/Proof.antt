@@ -1,9 +1,9 @@
--- `script::first_limbs` gives a part of the limbs that are lent.
+-- `parts::first_limbs` gives a part of the limbs that are lent.
 use mathlib.Core.Path.{sym}
 use lib.Seq.{length-take-le}
 use borrow.Author.Needs.{needs}
-use Rattle.script.proofs.first_limbs.Statement.{statement}
-use Rattle.script.proofs.first_limbs.Tie as tie
+use Rattle.parts.proofs.first_limbs.Statement.{statement}
+use Rattle.parts.proofs.first_limbs.Tie as tie
 
 returns : tie.Need-returns
 returns c = search needs

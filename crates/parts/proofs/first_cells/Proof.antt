@@ -1,9 +1,9 @@
--- `script::first_cells` gives a part of the cells that are lent.
+-- `parts::first_cells` gives a part of the cells that are lent.
 use mathlib.Core.Path.{sym}
 use lib.Seq.{length-take-le}
 use borrow.Author.Needs.{needs}
-use Rattle.script.proofs.first_cells.Statement.{statement}
-use Rattle.script.proofs.first_cells.Tie as tie
+use Rattle.parts.proofs.first_cells.Statement.{statement}
+use Rattle.parts.proofs.first_cells.Tie as tie
 
 returns : tie.Need-returns
 returns c = search needs

@@ -1,0 +1,45 @@
+-- Worked examples of the definitions.
+use mathlib.Core.Path.{_≡_, refl}
+use mathlib.Core.Bool.{true, false}
+use mathlib.Core.List.{[], _∷_}
+use Rattle.replies.specs.declared.Profile.{Profile}
+use Rattle.replies.specs.Replies.{refused, orElse, outsideRefusal, profileRefusal}
+use Rattle.text.specs.Text.{bytes, decimal}
+use Rattle.outcomes.specs.Outcomes.{meaning, placeName, placeText, refusalText, cellsAround, nowhere, spotOf}
+
+pub record Told : Type 0 where
+  pub with-place : refusalText (refused 11 345) ≡ bytes "refused 11 at 345: forbidden pattern (top at 345)"
+  pub without-place : refusalText (refused 9 0) ≡ bytes "refused 9 at 0: lent output too short"
+  pub no-such-number : refusalText (refused 17 5) ≡ bytes "refused 17 at 5: "
+  pub one-cell : cellsAround (3 ∷ []) 0 ≡ bytes " [3]"
+  pub all-cells : cellsAround (0 ∷ 31 ∷ 2 ∷ []) 1 ≡ bytes " 0 [31] 2"
+  pub eight-before : cellsAround (9 ∷ 8 ∷ 7 ∷ 6 ∷ 5 ∷ 4 ∷ 3 ∷ 2 ∷ 1 ∷ 0 ∷ []) 9 ≡ bytes " 8 7 6 5 4 3 2 1 [0]"
+  pub eight-behind : cellsAround (9 ∷ 8 ∷ 7 ∷ 6 ∷ 5 ∷ 4 ∷ 3 ∷ 2 ∷ 1 ∷ 0 ∷ []) 0 ≡ bytes " [9] 8 7 6 5 4 3 2 1"
+  pub past-all : cellsAround (3 ∷ []) 9 ≡ []
+
+pub told : Told
+unfolding decimal meaning placeName placeText refusalText cellsAround
+told = record {
+  with-place = refl;
+  without-place = refl;
+  no-such-number = refl;
+  one-cell = refl;
+  all-cells = refl;
+  eight-before = refl;
+  eight-behind = refl;
+  past-all = refl;
+}
+
+-- Words of 3 cells with bridges of 2 between them.
+abbrev three-and-two : Profile
+three-and-two = record { q = 4; m = 3; x = 2 }
+
+pub record Spots : Type 0 where
+  pub in-word : spotOf three-and-two 6 ≡ record { in_bridge = false; word = 1; cell = 1; first = 5; last = 7 }
+  pub in-bridge : spotOf three-and-two 9 ≡ record { in_bridge = true; word = 1; cell = 1; first = 8; last = 9 }
+  pub past-all-streams : spotOf three-and-two 65536 ≡ nowhere
+  pub out-of-range : spotOf (record { q = 4; m = 0; x = 2 }) 6 ≡ nowhere
+
+pub spots : Spots
+unfolding spotOf profileRefusal orElse outsideRefusal
+spots = record { in-word = refl; in-bridge = refl; past-all-streams = refl; out-of-range = refl }

@@ -1,0 +1,200 @@
+// What a person is told of a refusal: its number, its place and what they mean, in document 01's words;
+// the cells around the place; and the word or the bridge that it lies in.
+ghost use mathlib.Core.Path.{_≡_};
+ghost use lib.ListN.{take};
+ghost use Rattle.io.specs.Counts.{Counts};
+ghost use Rattle.text.specs.Put.{Fits, Put};
+ghost use Rattle.outcomes.specs.Outcomes.{meaning, placeName, placeText, refusalText, firstShown, behindShown, cellText, cellsText, cellsAround, spotOf};
+use replies::Profile;
+use replies::Reply;
+
+// No stream has so many cells.
+const NO_PLACE: usize = 65536;
+
+// Cells that are shown before a place, and behind it.
+const SHOWN: usize = 8;
+
+// Where a place of a stream lies: which word, or which word the bridge stands behind, counted from 0;
+// which cell of it; and the places of its first and last cell.
+pub struct Spot {
+    pub in_bridge: bool,
+    pub word: usize,
+    pub cell: usize,
+    pub first: usize,
+    pub last: usize,
+}
+
+// Puts what a number means.
+fn put_meaning(number: u8, out: &mut [u8], at: usize) -> usize
+    requires { ⌜ Fits (now out) at (meaning number) ⌝ }
+    ensures { λ r. ⌜ Put (now (out .entry)) at (meaning number) (now (out .exit)) r ⌝ }
+{
+    match number {
+        1 => text::put(out, at, b"q outside its range, 2 to 32"),
+        2 => text::put(out, at, b"m outside its range, 1 to 128"),
+        3 => text::put(out, at, b"x outside its range, 1 to 8"),
+        4 => text::put(out, at, b"no words that carry messages"),
+        5 => text::put(out, at, b"table shorter than 10(m+1) limbs"),
+        6 => text::put(out, at, b"table does not belong"),
+        7 => text::put(
+            out,
+            at,
+            b"input length that fits no word, stream or bit count, or is over the most",
+        ),
+        8 => text::put(out, at, b"bit after the last message bit is 1"),
+        9 => text::put(out, at, b"lent output too short"),
+        10 => text::put(out, at, b"cell at or above q"),
+        11 => text::put(out, at, b"forbidden pattern"),
+        12 => text::put(
+            out,
+            at,
+            b"index at or above N(m), or list row at or above 40",
+        ),
+        13 => text::put(out, at, b"wrong bridge cell"),
+        14 => text::put(out, at, b"word of all 0"),
+        15 => text::put(out, at, b"index above 2^s"),
+        16 => text::put(out, at, b"word of all top"),
+        _ => at,
+    }
+}
+
+// Puts what stands at the place of a number, where the number has one.
+fn put_place_name(number: u8, out: &mut [u8], at: usize) -> usize
+    requires { ⌜ Fits (now out) at (placeName number) ⌝ }
+    ensures { λ r. ⌜ Put (now (out .entry)) at (placeName number) (now (out .exit)) r ⌝ }
+{
+    match number {
+        6 => text::put(out, at, b"first wrong row "),
+        8 => text::put(out, at, b"bit at "),
+        10 | 13 => text::put(out, at, b"cell at "),
+        11 => text::put(out, at, b"top at "),
+        14 | 15 | 16 => text::put(out, at, b"word at "),
+        _ => at,
+    }
+}
+
+// Puts the place behind its name, in brackets; nothing where a number has no place.
+fn put_place(reply: Reply, out: &mut [u8], at: usize) -> usize
+    requires { ⌜ Fits (now out) at (placeText reply) ⌝ }
+    ensures { λ r. ⌜ Put (now (out .entry)) at (placeText reply) (now (out .exit)) r ⌝ }
+{
+    let mut name = [0u8; 16];
+    let named = put_place_name(reply.number, &mut name, 0);
+    if named == 0 {
+        return at;
+    }
+    let mut next = text::put(out, at, b" (");
+    next = text::put(out, next, &name[..named]);
+    next = text::put_decimal(out, next, reply.place as u64);
+    text::put(out, next, b")")
+}
+
+// Puts what is told of a refusal.
+fn put_refusal(reply: Reply, out: &mut [u8]) -> usize
+    requires { ⌜ Fits (now out) 0 (refusalText reply) ⌝ }
+    ensures { λ r. ⌜ Put (now (out .entry)) 0 (refusalText reply) (now (out .exit)) r ⌝ }
+{
+    let mut next = text::put(out, 0, b"refused ");
+    next = text::put_decimal(out, next, reply.number as u64);
+    next = text::put(out, next, b" at ");
+    next = text::put_decimal(out, next, reply.place as u64);
+    next = text::put(out, next, b": ");
+    next = put_meaning(reply.number, out, next);
+    put_place(reply, out, next)
+}
+
+// Writes what is told of a refusal to the front of `out`. How many bytes it has.
+pub fn refusal(reply: Reply, out: &mut [u8; 256]) -> usize
+    ensures { λ r. ⌜ Counts r (now (out .exit)) ⌝ }
+    ensures { λ r. ⌜ take r (now (out .exit)) ≡ refusalText reply ⌝ }
+{
+    put_refusal(reply, out)
+}
+
+// The place of the first cell that is shown around a place.
+pub fn first_shown(place: usize) -> usize
+    ensures { λ r. ⌜ r ≡ firstShown place ⌝ }
+{
+    if place < SHOWN {
+        return 0;
+    }
+    place - SHOWN
+}
+
+// The place behind the last cell that is shown around a place, of so many cells.
+pub fn behind_shown(place: usize, cells: usize) -> usize
+    ensures { λ r. ⌜ r ≡ behindShown place cells ⌝ }
+{
+    if cells < SHOWN + 1 {
+        return cells;
+    }
+    if cells - (SHOWN + 1) < place {
+        return cells;
+    }
+    place + (SHOWN + 1)
+}
+
+// Puts the level of a cell behind a blank, in brackets where it is marked.
+fn put_cell(level: u8, marked: bool, out: &mut [u8], at: usize) -> usize
+    requires { ⌜ Fits (now out) at (cellText level marked) ⌝ }
+    ensures { λ r. ⌜ Put (now (out .entry)) at (cellText level marked) (now (out .exit)) r ⌝ }
+{
+    if marked {
+        let mut next = text::put(out, at, b" [");
+        next = text::put_decimal(out, next, level as u64);
+        return text::put(out, next, b"]");
+    }
+    let next = text::put(out, at, b" ");
+    text::put_decimal(out, next, level as u64)
+}
+
+// Writes the cells around a place to the front of `out`, each behind a blank, the one at the place in
+// brackets. How many bytes they take.
+pub fn around(cells: &[u8], place: usize, out: &mut [u8; 128]) -> usize
+    ensures { λ r. ⌜ Counts r (now (out .exit)) ⌝ }
+    ensures { λ r. ⌜ take r (now (out .exit)) ≡ cellsAround (now (cells .entry)) place ⌝ }
+{
+    let behind = behind_shown(place, cells.len());
+    let mut next = 0;
+    let mut i = first_shown(place);
+    while i < behind {
+        next = put_cell(cells[i], i == place, out, next);
+        i += 1;
+    }
+    next
+}
+
+// Where a place of a stream lies; all 0 for a profile out of range, which no stream has, and for a place
+// that no stream reaches.
+pub fn spot_of(p: Profile, place: usize) -> Spot
+    ensures { λ r. ⌜ r ≡ spotOf p place ⌝ }
+{
+    if (replies::refused_profile(p).number != replies::DONE) | (NO_PLACE <= place) {
+        return Spot {
+            in_bridge: false,
+            word: 0,
+            cell: 0,
+            first: 0,
+            last: 0,
+        };
+    }
+    let word = place / (p.m + p.x);
+    let cell = place % (p.m + p.x);
+    let start = place - cell;
+    if cell < p.m {
+        return Spot {
+            in_bridge: false,
+            word,
+            cell,
+            first: start,
+            last: start + p.m - 1,
+        };
+    }
+    Spot {
+        in_bridge: true,
+        word,
+        cell: cell - p.m,
+        first: start + p.m,
+        last: start + p.m + p.x - 1,
+    }
+}
