@@ -47,7 +47,7 @@ fn load(line: Line, asked: Asked, typed: usize) {
 // left over; else all its bits, which are then no whole messages.
 fn bits_in(p: Profile, table: &[u64], bytes: usize) -> usize {
     if 20449 < bytes {
-        return 0;
+        return usize::MAX;
     }
     let bits = 8 * bytes;
     let s = catalogue::rate_of_words(p, table, 1).bits;
@@ -56,9 +56,6 @@ fn bits_in(p: Profile, table: &[u64], bytes: usize) -> usize {
     }
     let over = bits % s;
     if 8 <= over {
-        return bits;
-    }
-    if bits < over {
         return bits;
     }
     bits - over
