@@ -9,35 +9,54 @@ use replies::Reply;
 
 mod on_bits;
 
-// Which subcommand it is; 0 for none of these.
-fn which(line: Line) -> u8 {
-    if command_line::is_word(line, 0, b"read") {
-        return 1;
-    }
-    if command_line::is_word(line, 0, b"index") {
-        return 2;
-    }
-    if command_line::is_word(line, 0, b"turn") {
-        return 3;
-    }
-    if command_line::is_word(line, 0, b"join") {
-        return 4;
-    }
-    if command_line::is_word(line, 0, b"find") {
-        return 5;
-    }
-    0
+// The subcommands that take cells, and any other word.
+enum Command {
+    Read,
+    Index,
+    Turn,
+    Join,
+    Find,
+    Other,
 }
 
-// A subcommand has what it takes: read and index may use a table that is lent, read, turn and join may
-// write a file.
-fn fits(line: Line, asked: Asked, which: u8) -> bool {
-    match which {
-        1 => command_line::fits(line, asked, 1, 2, true, false),
-        2 => command_line::fits(line, asked, 1, 1, true, false),
-        3 => command_line::fits(line, asked, 1, 2, false, false),
-        4 => command_line::fits(line, asked, 2, 3, false, false),
-        _ => command_line::fits(line, asked, 1, 1, false, false),
+// Which subcommand it is.
+fn which(line: Line) -> Command {
+    if command_line::is_word(line, 0, b"read") {
+        return Command::Read;
+    }
+    if command_line::is_word(line, 0, b"index") {
+        return Command::Index;
+    }
+    if command_line::is_word(line, 0, b"turn") {
+        return Command::Turn;
+    }
+    if command_line::is_word(line, 0, b"join") {
+        return Command::Join;
+    }
+    if command_line::is_word(line, 0, b"find") {
+        return Command::Find;
+    }
+    Command::Other
+}
+
+// The profile that a subcommand asks for. The finder takes no m.
+fn asked(line: Line, command: Command) -> Asked {
+    match command {
+        Command::Find => command_line::levels_and_reach(line),
+        _ => command_line::profile(line),
+    }
+}
+
+// A subcommand has what it takes: one file of cells or two, one that it may write, a table that may be
+// lent.
+fn fits(line: Line, asked: Asked, command: Command) -> bool {
+    match command {
+        Command::Read => command_line::fits(line, asked, 1, 2, true, false),
+        Command::Index => command_line::fits(line, asked, 1, 1, true, false),
+        Command::Turn => command_line::fits(line, asked, 1, 2, false, false),
+        Command::Join => command_line::fits(line, asked, 2, 3, false, false),
+        Command::Find => command_line::fits(line, asked, 1, 1, false, false),
+        Command::Other => false,
     }
 }
 
@@ -46,52 +65,45 @@ pub fn run(line: Line) -> bool {
     if command_line::is_word(line, 0, b"write") {
         return on_bits::write(line);
     }
-    let which = which(line);
-    let asked = if which == 5 {
-        command_line::levels_and_reach(line)
-    } else {
-        command_line::profile(line)
-    };
-    if (which == 0) || !fits(line, asked, which) {
+    let command = which(line);
+    let asked = asked(line, command);
+    if !fits(line, asked, command) {
         return false;
     }
     if asked.reply.number != DONE {
         telling::refusal(asked.reply);
         return true;
     }
-    load(line, asked, which);
+    load(line, asked, command);
     true
 }
 
-// Loads the cells, and the table where one is used.
-fn load(line: Line, asked: Asked, which: u8) {
+// Loads the cells.
+fn load(line: Line, asked: Asked, command: Command) {
     let mut name = io::buffer();
     let n = command_line::word(line, asked.next as usize, &mut name);
     let mut cells = [0u8; 65537];
     let loaded = files::load(&name[..n], &mut cells);
-    if !loaded.done {
-        return;
-    }
-    let cells = first_cells(&cells, loaded.count);
-    match which {
-        3 => turn(line, asked, &name[..n], cells),
-        4 => join(line, asked, &name[..n], cells),
-        5 => find(asked.profile, &name[..n], cells),
-        _ => with_table(line, asked, which, &name[..n], cells),
+    if loaded.done {
+        carry_out(
+            line,
+            asked,
+            command,
+            &name[..n],
+            first_cells(&cells, loaded.count),
+        );
     }
 }
 
-// Uses cells with a table.
-fn with_table(line: Line, asked: Asked, which: u8, name: &[u8], cells: &[u8]) {
-    let mut limbs = [0u64; 1290];
-    let table = lending::table(line, asked.profile, &mut limbs);
-    if !table.done {
-        return;
-    }
-    if which == 1 {
-        read(line, asked, first_limbs(&limbs, table.count), name, cells);
-    } else {
-        index(asked.profile, first_limbs(&limbs, table.count), name, cells);
+// Carries a subcommand out on cells.
+fn carry_out(line: Line, asked: Asked, command: Command, name: &[u8], cells: &[u8]) {
+    match command {
+        Command::Read => read(line, asked, name, cells),
+        Command::Index => index(line, asked, name, cells),
+        Command::Turn => turn(line, asked, name, cells),
+        Command::Join => join(line, asked, name, cells),
+        Command::Find => find(asked.profile, name, cells),
+        Command::Other => {}
     }
 }
 
@@ -103,8 +115,17 @@ fn bytes_of(bits: usize) -> usize {
     bits / 8 + 1
 }
 
+// Reads a stream, with a table.
+fn read(line: Line, asked: Asked, name: &[u8], cells: &[u8]) {
+    let mut limbs = [0u64; 1290];
+    let table = lending::table(line, asked.profile, &mut limbs);
+    if table.done {
+        read_with(line, asked, first_limbs(&limbs, table.count), name, cells);
+    }
+}
+
 // Reads a stream, and tells what came of it.
-fn read(line: Line, asked: Asked, table: &[u64], name: &[u8], cells: &[u8]) {
+fn read_with(line: Line, asked: Asked, table: &[u64], name: &[u8], cells: &[u8]) {
     let mut bytes = [0u8; 20448];
     let read = read_stream::read(asked.profile, table, cells, &mut bytes);
     if read.reply.number != DONE {
@@ -126,8 +147,13 @@ fn read(line: Line, asked: Asked, table: &[u64], name: &[u8], cells: &[u8]) {
 }
 
 // Tells the index of a word.
-fn index(p: Profile, table: &[u64], name: &[u8], cells: &[u8]) {
-    let indexed = index_of_word::index(p, table, cells);
+fn index(line: Line, asked: Asked, name: &[u8], cells: &[u8]) {
+    let mut limbs = [0u64; 1290];
+    let table = lending::table(line, asked.profile, &mut limbs);
+    if !table.done {
+        return;
+    }
+    let indexed = index_of_word::index(asked.profile, first_limbs(&limbs, table.count), cells);
     if indexed.reply.number != DONE {
         telling::refusal(indexed.reply);
         telling::of_cells(indexed.reply, name, cells, indexed.reply.place);

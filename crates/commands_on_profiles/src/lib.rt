@@ -10,38 +10,42 @@ use replies::Profile;
 use telling::number;
 use telling::text;
 
-// Which subcommand it is; 0 for none of these.
-fn which(line: Line) -> u8 {
-    if command_line::is_word(line, 0, b"table") {
-        return 1;
-    }
-    if command_line::is_word(line, 0, b"rate") {
-        return 2;
-    }
-    if command_line::is_word(line, 0, b"word") {
-        return 3;
-    }
-    if command_line::is_word(line, 0, b"list") {
-        return 4;
-    }
-    0
+// The subcommands that take a profile and no cells, and any other word.
+enum Command {
+    Table,
+    Rate,
+    Word,
+    List,
+    Other,
 }
 
-// A subcommand has what it takes: a table may be named where it is built, rate takes a number, and word
-// an index and the file that it may write.
-fn fits(line: Line, asked: Asked, which: u8) -> bool {
-    match which {
-        1 => command_line::fits(
-            line,
-            asked,
-            0,
-            if line.table == 0 { 1 } else { 0 },
-            true,
-            false,
-        ),
-        2 => command_line::fits(line, asked, 1, 1, true, false),
-        3 => command_line::fits(line, asked, 1, 2, true, false),
-        _ => command_line::fits(line, asked, 0, 0, false, false),
+// Which subcommand it is.
+fn which(line: Line) -> Command {
+    if command_line::is_word(line, 0, b"table") {
+        return Command::Table;
+    }
+    if command_line::is_word(line, 0, b"rate") {
+        return Command::Rate;
+    }
+    if command_line::is_word(line, 0, b"word") {
+        return Command::Word;
+    }
+    if command_line::is_word(line, 0, b"list") {
+        return Command::List;
+    }
+    Command::Other
+}
+
+// A subcommand has what it takes: table a file that it may write, unless a table is lent to be checked;
+// rate a number; word an index and a file that it may write.
+fn fits(line: Line, asked: Asked, command: Command) -> bool {
+    let built = if line.table == 0 { 1 } else { 0 };
+    match command {
+        Command::Table => command_line::fits(line, asked, 0, built, true, false),
+        Command::Rate => command_line::fits(line, asked, 1, 1, true, false),
+        Command::Word => command_line::fits(line, asked, 1, 2, true, false),
+        Command::List => command_line::fits(line, asked, 0, 0, false, false),
+        Command::Other => false,
     }
 }
 
@@ -50,19 +54,19 @@ pub fn run(line: Line) -> bool {
     if command_line::is_word(line, 0, b"profiles") {
         return profiles(line);
     }
-    let which = which(line);
+    let command = which(line);
     let asked = command_line::profile(line);
-    if (which == 0) || !fits(line, asked, which) {
+    if !fits(line, asked, command) {
         return false;
     }
     if asked.reply.number != DONE {
         telling::refusal(asked.reply);
         return true;
     }
-    match which {
-        1 => table(line, asked),
-        2 => return rate(line, asked),
-        3 => return word(line, asked),
+    match command {
+        Command::Table => table(line, asked),
+        Command::Rate => return rate(line, asked),
+        Command::Word => return word(line, asked),
         _ => list(asked.profile),
     }
     true
