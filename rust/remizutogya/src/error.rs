@@ -5,17 +5,17 @@ use std::fmt;
 
 /// A refusal: a number that says why, and a place that says where.
 ///
-/// A call that refuses has written to nothing that it was lent.
+/// A call that refuses has written to nothing that it was lent. Its text is the one that the program `remi` prints.
 ///
 /// ```
 /// use remizutogya::{Error, Profile, find_pattern, rate_of_words};
 ///
 /// let refused = find_pattern(4, 1, &[0, 3, 2, 3]).unwrap_err();
 /// assert_eq!((refused.number(), refused.place()), (Error::PATTERN, 1));
-/// assert_eq!(refused.to_string(), "refused 11 at 1: forbidden pattern (its first top)");
+/// assert_eq!(refused.to_string(), "refused 11 at 1: forbidden pattern (top at 1)");
 ///
 /// let refused = rate_of_words(Profile { q: 4, m: 5, x: 1 }, &[], 1).unwrap_err();
-/// assert_eq!(refused.to_string(), "refused 5: table shorter than 10(m+1) limbs");
+/// assert_eq!(refused.to_string(), "refused 5 at 0: table shorter than 10(m+1) limbs");
 /// ```
 #[derive(Clone, Copy, Debug, PartialEq, Eq, Hash)]
 pub struct Error {
@@ -68,7 +68,7 @@ impl Error {
         self.place
     }
 
-    /// What the number means, and what the place is of where it has one.
+    /// What the number means, and what stands at the place where it has one.
     const fn meaning(self) -> (&'static str, Option<&'static str>) {
         match self.number {
             Error::LEVELS => ("q outside its range, 2 to 32", None),
@@ -76,20 +76,20 @@ impl Error {
             Error::REACH => ("x outside its range, 1 to 8", None),
             Error::NO_MESSAGE => ("no words that carry messages", None),
             Error::TABLE_SHORT => ("table shorter than 10(m+1) limbs", None),
-            Error::TABLE_WRONG => ("table does not belong", Some("its first wrong row")),
+            Error::TABLE_WRONG => ("table does not belong", Some("first wrong row")),
             Error::INPUT_LENGTH => (
                 "input length that fits no word, stream or bit count, or is over the most",
                 None,
             ),
-            Error::BIT_BEHIND => ("bit after the last message bit is 1", Some("its bit place")),
+            Error::BIT_BEHIND => ("bit after the last message bit is 1", Some("bit at")),
             Error::OUTPUT_SHORT => ("lent output too short", None),
-            Error::CELL => ("cell at or above q", Some("its place")),
-            Error::PATTERN => ("forbidden pattern", Some("its first top")),
+            Error::CELL => ("cell at or above q", Some("cell at")),
+            Error::PATTERN => ("forbidden pattern", Some("top at")),
             Error::NO_SUCH => ("index at or above N(m), or list row at or above 40", None),
-            Error::BRIDGE => ("wrong bridge cell", Some("its place")),
-            Error::ALL_ZERO => ("word of all 0", Some("its first cell")),
-            Error::INDEX_ABOVE => ("index above 2^s", Some("its word's first cell")),
-            Error::ALL_TOP => ("word of all top", Some("its first cell")),
+            Error::BRIDGE => ("wrong bridge cell", Some("cell at")),
+            Error::ALL_ZERO => ("word of all 0", Some("word at")),
+            Error::INDEX_ABOVE => ("index above 2^s", Some("word at")),
+            Error::ALL_TOP => ("word of all top", Some("word at")),
             _ => ("number that has no meaning", None),
         }
     }
@@ -97,13 +97,12 @@ impl Error {
 
 impl fmt::Display for Error {
     fn fmt(&self, f: &mut fmt::Formatter<'_>) -> fmt::Result {
-        match self.meaning() {
-            (meaning, Some(of)) => write!(
-                f,
-                "refused {} at {}: {meaning} ({of})",
-                self.number, self.place
-            ),
-            (meaning, None) => write!(f, "refused {}: {meaning}", self.number),
+        let (number, place) = (self.number, self.place);
+        let (meaning, name) = self.meaning();
+        write!(f, "refused {number} at {place}: {meaning}")?;
+        match name {
+            Some(name) => write!(f, " ({name} {place})"),
+            None => Ok(()),
         }
     }
 }
@@ -142,11 +141,15 @@ mod tests {
         let place = 345;
         for number in 1..=16 {
             let text = Error { number, place }.to_string();
-            let start = match WITH_PLACE.contains(&number) {
-                true => format!("refused {number} at {place}: "),
-                false => format!("refused {number}: "),
-            };
-            assert!(text.starts_with(&start), "{text}");
+            assert!(
+                text.starts_with(&format!("refused {number} at 345: ")),
+                "{text}"
+            );
+            assert_eq!(
+                text.ends_with(" 345)"),
+                WITH_PLACE.contains(&number),
+                "{text}"
+            );
             assert!(!text.contains("no meaning"), "{text}");
         }
     }
