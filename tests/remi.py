@@ -83,7 +83,9 @@ class Disk:
         error = self.make(f"{name}.part") or (self.full if content else 0)
         if error:
             raise Stopped(f"cannot write {name}.part: {os.strerror(error)}")
-        error = (self.files.get(name) == EISDIR and EISDIR) if over else self.make(name)
+        error = self.make(name)
+        if error == EEXIST and over:
+            error = EISDIR if self.files[name] == EISDIR else 0
         if error == EEXIST:
             raise Stopped(f"{name} exists and is left as it is; -f writes over it")
         if error:
