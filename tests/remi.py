@@ -101,12 +101,11 @@ def number(word):
 
 def parsed(arguments):
     """The subcommand, what it was given by the names in the help text, and the options."""
-    words, options = [], {}
-    rest = list(arguments)
+    words, options, rest = [], {}, list(arguments)
+    if any(len(os.fsencode(word)) > MOST_ARGUMENT for word in rest):
+        raise Wrong
     while rest:
         word = rest.pop(0)
-        if len(os.fsencode(word)) > MOST_ARGUMENT:
-            raise Wrong
         if word in ("-t", "-n") and rest:
             options[word[1]] = rest.pop(0)
         elif word == "-f":
