@@ -10,7 +10,7 @@ from pathlib import Path
 import second
 
 TAKES = {
-    "take1": b"Scene 12 take 1, boom and two radio mics, rain on the roof, keep for the wild tra",
+    "take1": b"Scene 12 take 1, boom and two radio mics, rain on the roof, keep it as wild track",
     "take2": b"Scene 12 take 2, boom and two radio mics, rain is over, a lorry passes at the end",
 }
 SHORT, LONG = (4, 14, 1), (4, 14, 2)

@@ -1,6 +1,6 @@
 """The program remi a second time, over tests/second.py: what it prints, and which files are there afterwards.
 
-It shares no code with the crates. What a subcommand takes is read out of the help text, tests/help.txt. A directory is a dictionary of what
+It shares no code with the crates. What a subcommand takes is read out of the help text, which is what `remi help` prints. A directory is a dictionary of what
 a reader of each name gets: the bytes of a file, or an error number, as EISDIR for a directory.
 """
 
@@ -11,7 +11,7 @@ from pathlib import Path
 
 import second
 
-HELP = (Path(__file__).parent / "help.txt").read_text()
+HELP = (Path(__file__).parent.parent / "crates/remi/stdout").read_text()
 SUBCOMMANDS = {name: words.split() for name, words in re.findall(r"^  remi (\w+) +((?:\[?[A-Z]+\]? )*) *[a-z]", HELP, re.M)}
 OPTIONS = {letter: names.split(", ") for letter, names in re.findall(r"^  -([tn]) .*\((.*)\)$", HELP, re.M)}
 NUMBERS = ("Q", "X", "INDEX", "WORDS", "ROW")
