@@ -52,6 +52,13 @@ fn option_at(i: usize) -> u8 {
     option(&buf[..n])
 }
 
+// An argument is longer than any name.
+fn is_too_long(i: usize) -> bool {
+    let mut buf = io::buffer();
+    os::arg(i, &mut buf);
+    os::errno() != 0
+}
+
 // The line with a word, which is the i-th. No option may stand before it.
 fn with_word(line: Line, i: usize) -> Line {
     let mut more = line;
@@ -72,8 +79,10 @@ fn with_argument(line: Line, letter: u8, i: usize, next: usize) -> Line {
         b'n' => more.bits = next,
         _ => more.right = false,
     }
-    if (next == 0) & (letter != b'f') {
-        more.right = false;
+    if letter != b'f' {
+        if next == 0 || is_too_long(next) {
+            more.right = false;
+        }
     }
     more
 }
@@ -122,6 +131,12 @@ pub fn is_word(line: Line, k: usize, text: &[u8]) -> bool {
     let mut buf = io::buffer();
     let n = word(line, k, &mut buf);
     k < line.count && text::same(&buf[..n], text)
+}
+
+// Whether the line is this word alone, without options.
+pub fn is_alone(line: Line, text: &[u8]) -> bool {
+    let bare = (line.count == 1) & !line.over & (line.table == 0) & (line.bits == 0);
+    bare && is_word(line, 0, text)
 }
 
 // Takes the number at an argument to ten limbs, if it is one.

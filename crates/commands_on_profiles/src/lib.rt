@@ -36,14 +36,20 @@ fn which(line: Line) -> Command {
     Command::Other
 }
 
+// There are from 1 to so many words behind the profile, of which the first is a number.
+fn number_fits(line: Line, asked: Asked, most: usize) -> bool {
+    command_line::fits(line, asked, 1, most, true, false)
+        && command_line::number(line, asked.next as usize).right
+}
+
 // A subcommand has what it takes: table a file that it may write, unless a table is lent to be checked;
 // rate a number; word an index and a file that it may write.
 fn fits(line: Line, asked: Asked, command: Command) -> bool {
     let built = if line.table == 0 { 1 } else { 0 };
     match command {
         Command::Table => command_line::fits(line, asked, 0, built, true, false),
-        Command::Rate => command_line::fits(line, asked, 1, 1, true, false),
-        Command::Word => command_line::fits(line, asked, 1, 2, true, false),
+        Command::Rate => number_fits(line, asked, 1),
+        Command::Word => number_fits(line, asked, 2),
         Command::List => command_line::fits(line, asked, 0, 0, false, false),
         Command::Other => false,
     }
@@ -65,8 +71,8 @@ pub fn run(line: Line) -> bool {
     }
     match command {
         Command::Table => table(line, asked),
-        Command::Rate => return rate(line, asked),
-        Command::Word => return word(line, asked),
+        Command::Rate => rate(line, asked),
+        Command::Word => word(line, asked),
         _ => list(asked.profile),
     }
     true
@@ -168,12 +174,9 @@ fn check(p: Profile, table: &[u64]) {
     text(b"done: the table belongs\n");
 }
 
-// The rate of so many words, if what was typed for their number is one.
-fn rate(line: Line, asked: Asked) -> bool {
+// The rate of so many words.
+fn rate(line: Line, asked: Asked) {
     let words = command_line::number(line, asked.next as usize);
-    if !words.right {
-        return false;
-    }
     let mut limbs = [0u64; 1290];
     let table = lending::table(line, asked.profile, &mut limbs);
     if table.done {
@@ -183,7 +186,6 @@ fn rate(line: Line, asked: Asked) -> bool {
             words.value as usize,
         );
     }
-    true
 }
 
 // Tells the rate of n words.
@@ -198,18 +200,15 @@ fn rate_of(p: Profile, table: &[u64], n: usize) {
     text(b" cells\n");
 }
 
-// The word of an index, if what was typed for the index is a number.
-fn word(line: Line, asked: Asked) -> bool {
+// The word of an index.
+fn word(line: Line, asked: Asked) {
     let mut index = [0u64; 10];
-    if !command_line::limbs(line, asked.next as usize, &mut index) {
-        return false;
-    }
+    command_line::limbs(line, asked.next as usize, &mut index);
     let mut limbs = [0u64; 1290];
     let table = lending::table(line, asked.profile, &mut limbs);
     if table.done {
         word_of(line, asked, first_limbs(&limbs, table.count), Index(index));
     }
-    true
 }
 
 // Tells the word of an index.

@@ -39,7 +39,7 @@ fn main() {
         help(2);
         return;
     }
-    if command_line::is_word(line, 0, b"help") {
+    if command_line::is_alone(line, b"help") {
         help(1);
         return;
     }
