@@ -1,7 +1,7 @@
 """The files of examples/, written by tests/second.py alone: python3 tests/examples.py DIRECTORY.
 
-Two takes of a scene, each a stream of 24 words of the published profile of row 0 (q = 4, m = 14, x = 1) with the bits that it carries, which are
-a text; the first take with a cell damaged; the second take in cells of a longer reach, with the tables of both reaches; and a single word.
+Two takes of a scene, each a stream of 24 words of the published profile of row 0 (q = 4, m = 14, x = 1) with the bits that it carries,
+which are a text; the first take with a cell damaged; the second take in cells of a longer reach; the tables of both reaches; a single word.
 """
 
 import sys

@@ -95,10 +95,14 @@ def case(arguments, files, closed=0, full=0, room=0):
         subprocess.run(["mount", "-t", "tmpfs", "-o", f"size={size},mode=0777", "none", DATA], check=True)
         fill(files)
     elif there != files:
+        DATA.chmod(0o777)
         empty()
         fill(files)
     DATA.chmod(0o555 if closed else 0o777)
-    limit = lambda: resource.setrlimit(resource.RLIMIT_FSIZE, (room, room))
+
+    def limit():
+        resource.setrlimit(resource.RLIMIT_FSIZE, (room, room))
+
     how = {"restore_signals": False, "preexec_fn": limit} if full == EFBIG else {}
     ran = subprocess.run([*COMMAND, *arguments], cwd=DATA, stdin=subprocess.DEVNULL, capture_output=True, **USER, **how)
     there = found()
@@ -273,6 +277,8 @@ OPTIONS = ["-t", "-n", "-t lent", "-t -f", "-t ", "-t lent -t a", "-t a -t lent"
 OPTIONS += ["-n 45", "-n x", "-n ", "-n -1", "-n 9 -n 18", "-n 0018 -f", "-n " + "9" * 5000, "-n 9 -t lent", "-n 9 out"]
 OPTIONS += ["-f", "-f -f", "-f -t", "-f out", "-q", "--", "-ft", "--help"]
 LINES = [[], [""], ["-"], ["-f"], ["-t"], ["-t", "lent"], ["-f", "help"], ["--help"], ["-h"], ["A" * 5000], ["A" * 4096]]
+LINES += [["help", "x"], ["help", "-t", "x"], ["help", "-f"], ["help", "-n", 3], ["word", "row", 50, "x"], ["rate", "row", 50, "x"]]
+LINES += [["read", 4, 5, 1, "a", "-t", "A" * 5000], ["write", "row", 50, "bits", "-n", "x"]]
 LINES += [["reads", 4, 5, 1, "a"], ["READ", 4, 5, 1, "a"], ["rea", 4, 5, 1, "a"], [4, 5, 1, "read", "a"]]
 NAMES = ["A" * length for length in (250, 251, 255, 256, 4090, 4095, 4096)] + ["with blank", "caf\u00e9", "\udcff\udc80", "-"]
 
@@ -398,11 +404,10 @@ def no_room():
 
 def can_mount():
     """Whether a file system can be mounted that this process alone sees."""
-    apart = ROOT and ctypes.CDLL(None).unshare(0x20000) == 0  # CLONE_NEWNS
-    try:
-        return bool(apart) and subprocess.run(["mount", "--make-rprivate", "/"], capture_output=True).returncode == 0
-    except FileNotFoundError:
+    if not ROOT or ctypes.CDLL(None).unshare(0x20000):  # CLONE_NEWNS
         return False
+    tried = 'mount --make-rprivate / && mount -t tmpfs none "$1" && umount "$1"'
+    return subprocess.run(["sh", "-c", tried, "sh", DATA], capture_output=True).returncode == 0
 
 
 def by_chance(chance, times):

@@ -133,10 +133,10 @@ pub fn is_word(line: Line, k: usize, text: &[u8]) -> bool {
     k < line.count && text::same(&buf[..n], text)
 }
 
-// Whether the line is this word alone, without options.
+// Whether the line is this word alone, without -t and -n.
 pub fn is_alone(line: Line, text: &[u8]) -> bool {
-    let bare = (line.count == 1) & !line.over & (line.table == 0) & (line.bits == 0);
-    bare && is_word(line, 0, text)
+    let alone = (line.count == 1) & (line.table == 0) & (line.bits == 0);
+    alone && is_word(line, 0, text)
 }
 
 // Takes the number at an argument to ten limbs, if it is one.
