@@ -9,6 +9,15 @@ use replies::Reply;
 
 mod on_bits;
 
+// More cells than any call takes, so that a file of more is refused for its length.
+const CELLS: usize = 65537;
+
+// The bytes of the messages of 256 words, of at most 639 bits each.
+const BYTES: usize = 20448;
+
+// The limbs of the largest table: rows N(0) to N(128).
+const LIMBS: usize = 1290;
+
 // The subcommands that take cells, and any other word.
 enum Command {
     Read,
@@ -82,7 +91,7 @@ pub fn run(line: Line) -> bool {
 fn load(line: Line, asked: Asked, command: Command) {
     let mut name = io::buffer();
     let n = command_line::word(line, asked.next as usize, &mut name);
-    let mut cells = [0u8; 65537];
+    let mut cells = [0u8; CELLS];
     let loaded = files::load(&name[..n], &mut cells);
     if loaded.done {
         carry_out(
@@ -117,7 +126,7 @@ fn bytes_of(bits: usize) -> usize {
 
 // Reads a stream, with a table.
 fn read(line: Line, asked: Asked, name: &[u8], cells: &[u8]) {
-    let mut limbs = [0u64; 1290];
+    let mut limbs = [0u64; LIMBS];
     let table = lending::table(line, asked.profile, &mut limbs);
     if table.done {
         read_with(line, asked, first_limbs(&limbs, table.count), name, cells);
@@ -126,7 +135,7 @@ fn read(line: Line, asked: Asked, name: &[u8], cells: &[u8]) {
 
 // Reads a stream, and tells what came of it.
 fn read_with(line: Line, asked: Asked, table: &[u64], name: &[u8], cells: &[u8]) {
-    let mut bytes = [0u8; 20448];
+    let mut bytes = [0u8; BYTES];
     let read = read_stream::read(asked.profile, table, cells, &mut bytes);
     if read.reply.number != DONE {
         telling::refusal(read.reply);
@@ -148,7 +157,7 @@ fn read_with(line: Line, asked: Asked, table: &[u64], name: &[u8], cells: &[u8])
 
 // Tells the index of a word.
 fn index(line: Line, asked: Asked, name: &[u8], cells: &[u8]) {
-    let mut limbs = [0u64; 1290];
+    let mut limbs = [0u64; LIMBS];
     let table = lending::table(line, asked.profile, &mut limbs);
     if !table.done {
         return;
@@ -168,7 +177,7 @@ fn index(line: Line, asked: Asked, name: &[u8], cells: &[u8]) {
 
 // Turns a stream, and tells what came of it.
 fn turn(line: Line, asked: Asked, name: &[u8], cells: &[u8]) {
-    let mut other = [0u8; 65537];
+    let mut other = [0u8; CELLS];
     let turned = join_streams::turn(asked.profile, cells, &mut other);
     if turned.reply.number != DONE {
         telling::refusal(turned.reply);
@@ -188,7 +197,7 @@ fn turn(line: Line, asked: Asked, name: &[u8], cells: &[u8]) {
 fn join(line: Line, asked: Asked, first_name: &[u8], first: &[u8]) {
     let mut name = io::buffer();
     let n = command_line::word(line, asked.next as usize + 1, &mut name);
-    let mut cells = [0u8; 65537];
+    let mut cells = [0u8; CELLS];
     let second = files::load(&name[..n], &mut cells);
     if second.done {
         join_cells(
@@ -233,7 +242,7 @@ fn join_cells(
     second: &[u8],
 ) {
     let p = asked.profile;
-    let mut cells = [0u8; 65537];
+    let mut cells = [0u8; CELLS];
     let joined = join_streams::join(p, first, second, &mut cells);
     let reply = joined.reply;
     if reply.number != DONE {

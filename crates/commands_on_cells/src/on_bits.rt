@@ -1,4 +1,7 @@
 // The subcommand write, on a file of bits.
+use crate::BYTES;
+use crate::CELLS;
+use crate::LIMBS;
 use command_line::Asked;
 use command_line::Line;
 use parts::first_cells;
@@ -25,12 +28,12 @@ pub fn write(line: Line) -> bool {
 fn load(line: Line, asked: Asked, typed: usize) {
     let mut name = io::buffer();
     let n = command_line::word(line, asked.next as usize, &mut name);
-    let mut bytes = [0u8; 20449];
+    let mut bytes = [0u8; BYTES + 1];
     let message = files::load(&name[..n], &mut bytes);
     if !message.done {
         return;
     }
-    let mut limbs = [0u64; 1290];
+    let mut limbs = [0u64; LIMBS];
     let table = lending::table(line, asked.profile, &mut limbs);
     if table.done {
         let table = first_limbs(&limbs, table.count);
@@ -44,9 +47,10 @@ fn load(line: Line, asked: Asked, typed: usize) {
 }
 
 // How many bits a file of so many bytes holds: the most that are whole messages, if less than a byte is
-// left over; else all its bits, which are then no whole messages.
+// left over; else all its bits, which are then no whole messages. A longer file than any message holds
+// more than are ever written.
 fn bits_in(p: Profile, table: &[u64], bytes: usize) -> usize {
-    if 20449 < bytes {
+    if BYTES < bytes {
         return usize::MAX;
     }
     let bits = 8 * bytes;
@@ -63,11 +67,11 @@ fn bits_in(p: Profile, table: &[u64], bytes: usize) -> usize {
 
 // Writes so many bits of some bytes, and tells what came of it.
 fn write_bits(line: Line, asked: Asked, table: &[u64], name: &[u8], bytes: &[u8], bits: usize) {
-    let mut cells = [0u8; 65537];
+    let mut cells = [0u8; CELLS];
     let written = write_stream::write(asked.profile, table, bytes, bits, &mut cells);
     if written.reply.number != DONE {
         telling::refusal(written.reply);
-        telling::length(written.reply, name, bytes.len(), 20448, b" bytes\n");
+        telling::length(written.reply, name, bytes.len(), BYTES, b" bytes\n");
         return;
     }
     let to = asked.next as usize + 1;

@@ -10,6 +10,11 @@ use replies::Profile;
 use telling::number;
 use telling::text;
 
+// The limbs of the largest table: rows N(0) to N(128); and the bytes of its file.
+const LIMBS: usize = 1290;
+
+const TABLE_BYTES: usize = 10320;
+
 // The subcommands that take a profile and no cells, and any other word.
 enum Command {
     Table,
@@ -84,7 +89,7 @@ fn table(line: Line, asked: Asked) {
         build(line, asked);
         return;
     }
-    let mut limbs = [0u64; 1290];
+    let mut limbs = [0u64; LIMBS];
     let table = lending::table(line, asked.profile, &mut limbs);
     if table.done {
         check(asked.profile, first_limbs(&limbs, table.count));
@@ -93,7 +98,7 @@ fn table(line: Line, asked: Asked) {
 
 // Builds the table of a profile.
 fn build(line: Line, asked: Asked) {
-    let mut limbs = [0u64; 1290];
+    let mut limbs = [0u64; LIMBS];
     let built = tables::build(asked.profile, &mut limbs);
     if built.reply.number != DONE {
         telling::refusal(built.reply);
@@ -117,7 +122,7 @@ fn build(line: Line, asked: Asked) {
 
 // Writes a table to the file that word k names.
 fn save(line: Line, k: usize, limbs: &[u64], rows: usize) {
-    let mut bytes = [0u8; 10320];
+    let mut bytes = [0u8; TABLE_BYTES];
     files::table::spell(limbs, &mut bytes);
     if lending::output(line, k, &bytes, bytes_of(limbs.len())) {
         text(b"done: ");
@@ -129,14 +134,14 @@ fn save(line: Line, k: usize, limbs: &[u64], rows: usize) {
 
 // How many bytes so many limbs of a table take.
 fn bytes_of(limbs: usize) -> usize {
-    if 1290 < limbs {
-        return 10320;
+    if LIMBS < limbs {
+        return TABLE_BYTES;
     }
     8 * limbs
 }
 
 // Tells the first rows of a table.
-fn tell_rows(table: &[u64; 1290], count: usize) {
+fn tell_rows(table: &[u64; LIMBS], count: usize) {
     for i in 0..129 {
         if i < count {
             text(b"N(");
@@ -149,7 +154,7 @@ fn tell_rows(table: &[u64; 1290], count: usize) {
 }
 
 // Tells the number in the ten limbs from a place on.
-fn tell_row(table: &[u64; 1290], at: usize)
+fn tell_row(table: &[u64; LIMBS], at: usize)
     requires { ⌜ at + 10 ≤ 1290 ⌝ }
 {
     let mut limbs = [0u64; 10];
@@ -177,7 +182,7 @@ fn check(p: Profile, table: &[u64]) {
 // The rate of so many words.
 fn rate(line: Line, asked: Asked) {
     let words = command_line::number(line, asked.next as usize);
-    let mut limbs = [0u64; 1290];
+    let mut limbs = [0u64; LIMBS];
     let table = lending::table(line, asked.profile, &mut limbs);
     if table.done {
         rate_of(
@@ -204,7 +209,7 @@ fn rate_of(p: Profile, table: &[u64], n: usize) {
 fn word(line: Line, asked: Asked) {
     let mut index = [0u64; 10];
     command_line::limbs(line, asked.next as usize, &mut index);
-    let mut limbs = [0u64; 1290];
+    let mut limbs = [0u64; LIMBS];
     let table = lending::table(line, asked.profile, &mut limbs);
     if table.done {
         word_of(line, asked, first_limbs(&limbs, table.count), Index(index));

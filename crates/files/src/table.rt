@@ -2,6 +2,11 @@
 ghost use Prim.Native.Nat.{_<_};
 use crate::Loaded;
 
+// The limbs of the largest table, rows N(0) to N(128), and their bytes.
+const LIMBS: usize = 1290;
+
+const BYTES: usize = 10320;
+
 // A byte as a number.
 fn wide(byte: u8) -> u64
     ensures { λ r. ⌜ r < 256 ⌝ }
@@ -29,7 +34,7 @@ fn limb_at(bytes: &[u8], at: usize) -> u64 {
 fn take(bytes: &[u8], limbs: &mut [u64]) {
     let mut i = 0;
     while i < limbs.len() {
-        if 1290 <= i {
+        if LIMBS <= i {
             return;
         }
         limbs[i] = limb_at(bytes, 8 * i);
@@ -39,7 +44,7 @@ fn take(bytes: &[u8], limbs: &mut [u64]) {
 
 // Reads the table in a file. What follows the rows of the largest table is ignored. How many limbs it has.
 pub fn load(path: &[u8], limbs: &mut [u64]) -> Loaded {
-    let mut bytes = [0u8; 10320];
+    let mut bytes = [0u8; BYTES];
     let loaded = crate::load(path, &mut bytes);
     take(&bytes, limbs);
     Loaded {
