@@ -1,6 +1,7 @@
 // The subcommands on files of cells: read, turn, join, index, find; and write, on a file of bits.
 use command_line::Asked;
 use command_line::Line;
+use files::table::LIMBS;
 use parts::first_cells;
 use parts::first_limbs;
 use replies::DONE;
@@ -10,13 +11,10 @@ use replies::Reply;
 mod on_bits;
 
 // More cells than any call takes, so that a file of more is refused for its length.
-const CELLS: usize = 65537;
+const CELLS: usize = telling::MOST_CELLS + 1;
 
 // The bytes of the messages of 256 words, of at most 639 bits each.
 const BYTES: usize = 20448;
-
-// The limbs of the largest table: rows N(0) to N(128).
-const LIMBS: usize = 1290;
 
 // The subcommands that take cells, and any other word.
 enum Command {

@@ -1,9 +1,9 @@
 // The subcommand write, on a file of bits.
 use crate::BYTES;
 use crate::CELLS;
-use crate::LIMBS;
 use command_line::Asked;
 use command_line::Line;
+use files::table::LIMBS;
 use parts::first_cells;
 use parts::first_limbs;
 use replies::DONE;

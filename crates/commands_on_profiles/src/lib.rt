@@ -2,6 +2,8 @@
 ghost use Prim.Native.Nat.{_+_, _≤_};
 use command_line::Asked;
 use command_line::Line;
+use files::table::BYTES;
+use files::table::LIMBS;
 use numbers::Index;
 use parts::first_cells;
 use parts::first_limbs;
@@ -9,11 +11,6 @@ use replies::DONE;
 use replies::Profile;
 use telling::number;
 use telling::text;
-
-// The limbs of the largest table: rows N(0) to N(128); and the bytes of its file.
-const LIMBS: usize = 1290;
-
-const TABLE_BYTES: usize = 10320;
 
 // The subcommands that take a profile and no cells, and any other word.
 enum Command {
@@ -122,7 +119,7 @@ fn build(line: Line, asked: Asked) {
 
 // Writes a table to the file that word k names.
 fn save(line: Line, k: usize, limbs: &[u64], rows: usize) {
-    let mut bytes = [0u8; TABLE_BYTES];
+    let mut bytes = [0u8; BYTES];
     files::table::spell(limbs, &mut bytes);
     if lending::output(line, k, &bytes, bytes_of(limbs.len())) {
         text(b"done: ");
@@ -135,7 +132,7 @@ fn save(line: Line, k: usize, limbs: &[u64], rows: usize) {
 // How many bytes so many limbs of a table take.
 fn bytes_of(limbs: usize) -> usize {
     if LIMBS < limbs {
-        return TABLE_BYTES;
+        return BYTES;
     }
     8 * limbs
 }

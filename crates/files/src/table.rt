@@ -3,9 +3,9 @@ ghost use Prim.Native.Nat.{_<_};
 use crate::Loaded;
 
 // The limbs of the largest table, rows N(0) to N(128), and their bytes.
-const LIMBS: usize = 1290;
+pub const LIMBS: usize = 1290;
 
-const BYTES: usize = 10320;
+pub const BYTES: usize = 10320;
 
 // A byte as a number.
 fn wide(byte: u8) -> u64

@@ -4,7 +4,7 @@ ghost use mathlib.Core.Path.{_≡_};
 ghost use lib.ListN.{take};
 ghost use Rattle.io.specs.Counts.{Counts};
 ghost use Rattle.text.specs.Put.{Fits, Put};
-ghost use Rattle.outcomes.specs.Outcomes.{meaning, placeName, placeText, refusalText, firstShown, behindShown, cellText, cellsText, cellsAround, spotOf};
+ghost use Rattle.outcomes.specs.Outcomes.{meaning, placeName, placeText, refusalText, firstShown, behindShown, cellText, cellsAround, spotOf};
 use replies::Profile;
 use replies::Reply;
 

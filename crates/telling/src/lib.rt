@@ -4,7 +4,7 @@ use replies::Profile;
 use replies::Reply;
 
 // No call takes more cells.
-const MOST_CELLS: usize = 65536;
+pub const MOST_CELLS: usize = 65536;
 
 // Some text.
 pub fn text(t: &[u8]) {
