@@ -26,6 +26,6 @@ rowAt [] i = record { reply = refused 12 0; q = 0; x = 0; m = 0; s = 0 }
 rowAt (r ∷ rows) zero = r
 rowAt (r ∷ rows) (suc i) = rowAt rows i
 
--- Row i of the list; 12 where it is at or above 40.
+-- Row i of the list; 12 where there is none, at or above 40.
 unfoldable pub publishing : ℕ → Published
 publishing i = rowAt publishedRows i

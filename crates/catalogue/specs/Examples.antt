@@ -2,20 +2,21 @@
 use mathlib.Core.Path.{_≡_, refl}
 use Prim.Native.Nat.{ℕ}
 use Rattle.limbs.specs.Limbs.{value, limbsOf, numberAt}
+use Rattle.messages.specs.Carrying.{messageRefusal, carryingRefusal}
 use Rattle.replies.specs.declared.Reply.{Reply}
-use Rattle.replies.specs.Replies.{done, refused, refusedAtFirst, orElse, outsideRefusal, profileRefusal}
+use Rattle.replies.specs.Replies.{done, refused, refusedAtFirst, orElse, outsideRefusal, profileRefusal, profileOf}
 use Rattle.patterns.specs.Pattern.{patternFree}
 use Rattle.listing.specs.Listing.{allWords, listed, countOf}
 use Rattle.code.specs.Code.{legal, N}
 use Rattle.code.specs.Messages.{messageLength}
-use Rattle.tables.specs.Tables.{tableRefusal, tableOf}
+use Rattle.tables.specs.Tables.{tableRefusal, tableOf, rowsBelow}
 use Rattle.catalogue.specs.declared.Rated.{Rated}
 use Rattle.catalogue.specs.Catalogue.{row, publishing}
-use Rattle.catalogue.specs.Rating.{messageRefusal, carryingRefusal, rateRefusal, rating}
+use Rattle.catalogue.specs.Rating.{rateRefusal, rating}
 
 -- The rate of n words at reach 1, with the table of a reach.
 abbrev asked : ℕ → ℕ → ℕ → ℕ → Rated
-asked q m reach n = rating (record { q = q; m = m; x = 1 }) (tableOf q reach m) n
+asked q m reach n = rating (profileOf q m 1) (tableOf (profileOf q m reach)) n
 
 abbrev answered : Reply → ℕ → ℕ → Rated
 answered reply bits cells = record { reply = reply; bits = bits; cells = cells }
@@ -34,7 +35,7 @@ pub record Examples : Type 0 where
   pub table-before-words : asked 2 4 2 257 ≡ answered (refused 6 4) 0 0
 
 pub examples : Examples
-unfolding publishing rating carryingRefusal rateRefusal messageRefusal orElse refusedAtFirst profileRefusal outsideRefusal tableRefusal tableOf
+unfolding publishing rating carryingRefusal rateRefusal messageRefusal orElse refusedAtFirst profileRefusal outsideRefusal tableRefusal rowsBelow
     messageLength N legal countOf listed allWords patternFree value limbsOf numberAt
 examples = record {
   first-row = refl;

@@ -2,7 +2,5 @@
 pub mod Catalogue
 pub mod Rating
 pub mod Examples
-pub mod HighestBit
-pub mod LengthLaws
 pub mod RatingLaws
 pub mod RowsRight

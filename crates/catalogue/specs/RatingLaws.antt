@@ -1,4 +1,4 @@
--- Laws of the rate: what is known of a call on messages and of a rate that are not refused, and the outcome.
+-- Laws of the rate: what is known of one that is not refused, and the outcome.
 use mathlib.Core.Path.{_≡_, refl}
 use mathlib.Core.List.{List}
 use Prim.Native.Nat.{ℕ, _+_, _*_, _≤_, _<_}
@@ -7,28 +7,22 @@ use native.Mathlib.Omega.{arith}
 use lib.Dec.{lit<}
 use borrow.Author.Tests.{ltb-false, eq-eqb, ne-eqb}
 use Rattle.limbs.specs.Limbs.{base}
+use Rattle.messages.specs.Carrying.{CarriesMessages}
+use Rattle.messages.specs.CarryingLaws.{carries-messages}
+use Rattle.messages.specs.LengthLaws.{length-below}
 use Rattle.replies.specs.declared.Reply.{Reply}
 use Rattle.replies.specs.declared.Profile.{Profile}
 use Rattle.replies.specs.Replies.{done}
-use Rattle.replies.specs.ReplyLaws.{both-done, test-failed, profile-in-range}
-use Rattle.tables.specs.TableLaws.{table-belongs}
-use Rattle.catalogue.specs.LengthLaws.{lengthOf, CarriesMessages, length-below}
-use Rattle.catalogue.specs.Rating.{carryingRefusal, rateRefusal, rating}
-
--- Where neither profile nor table is refused and there are messages, the table belongs to the profile and words carry messages.
-pub carries-messages : (p : Profile) (table : List ℕ) {r : Reply} → r ≡ carryingRefusal p table → r .number ≡ 0 → CarriesMessages p table
-unfolding carryingRefusal
-carries-messages p table e none =
-    let first = both-done _ _ (rw e at none) in
-    let second = both-done _ _ (first .second) in
-    record { inRange = profile-in-range p refl (first .first); carries = second .first; belongs = table-belongs p table (second .second) }
+use Rattle.replies.specs.ReplyLaws.{both-done, test-failed}
+use Rattle.profiles.specs.Profiles.{lengthOf, stride}
+use Rattle.catalogue.specs.Rating.{rateRefusal, rating}
 
 -- What is known of a rate that is not refused: what is worked out fits.
 pub record Rates (p : Profile) (table : List ℕ) (n : ℕ) : Type 0 where
   pub ready : CarriesMessages p table
   pub bits : n * lengthOf p < base
   pub width : p .m + p .x < base
-  pub cells : n * (p .m + p .x) < base
+  pub cells : n * stride p < base
 
 small-product : {n k : ℕ} → n ≤ 256 → k ≤ 640 → n * k < base
 small-product l h = lt-of-le-of-lt (mul-le-mul l h) (lit< {m = 256 * 640} {n = base} tt)
@@ -55,6 +49,6 @@ unfolding rating
 rate-refused p table n {r} e some = rw (← e, ne-eqb (r .number) 0 some)
 
 pub rate-given : (p : Profile) (table : List ℕ) (n : ℕ) {r : Reply} {s : ℕ} → r ≡ rateRefusal p table n → r .number ≡ 0 → s ≡ lengthOf p
-    → record { reply = done; bits = n * s; cells = n * (p .m + p .x) } ≡ rating p table n
+    → record { reply = done; bits = n * s; cells = n * stride p } ≡ rating p table n
 unfolding rating
 rate-given p table n {r} e none same = rw (← e, eq-eqb (r .number) 0 none, same)

@@ -11,16 +11,17 @@ use borrow.Author.Tests.{ltb-true, leb-true, eqb-true}
 use Rattle.replies.specs.declared.Reply.{Reply}
 use Rattle.replies.specs.declared.Profile.{Profile}
 use Rattle.replies.specs.Replies.{done, isDone, refused, orElse, outsideRefusal, profileRefusal}
-use Rattle.replies.specs.ReplyLaws.{InRange, profile-in-range}
+use Rattle.replies.specs.ReplyLaws.{profile-in-range}
+use Rattle.replies.specs.Ranges.{InRange}
 use Rattle.listing.specs.Every.{every}
 use Rattle.code.specs.Code.{N}
 use Rattle.code.specs.Formulas.{countsDownFrom, countByRecursion}
 use Rattle.code.specs.Messages.{wordsKeptOut, messageLength}
 use Rattle.code.specs.MessageLaws.{Largest, length-is-largest}
 use Rattle.code.specs.Theorem1.{recursion-counts}
+use Rattle.messages.specs.HighestBit.{one-largest}
 use Rattle.catalogue.specs.declared.Published.{Published}
 use Rattle.catalogue.specs.Catalogue.{publishedRows, rowAt, publishing}
-use Rattle.catalogue.specs.HighestBit.{one-largest}
 
 -- The profile of a row.
 abbrev pub profileOf : Published → Profile

@@ -86,7 +86,7 @@ pub record Accepted (q x : ℕ) (cells : List ℕ) : Type 0 where
   pub levelled : allBelow q cells ≡ true
   pub passes : legal q x cells ≡ true
 
-pub cells-accepted : (q x : ℕ) (cells : List ℕ) → cellsRefusal q x cells .number ≡ 0 → Accepted q x cells
+pub cells-accepted : (q x : ℕ) (cells : List ℕ) → cellsRefusal q (published q x) cells .number ≡ 0 → Accepted q x cells
 unfolding cellsRefusal
 cells-accepted q x cells e =
     let both = both-done _ _ e in

@@ -6,6 +6,7 @@ use lib.Dec.{ltb, leb}
 use lib.ListN.{length, drop, getD}
 use Rattle.replies.specs.declared.Reply.{Reply}
 use Rattle.replies.specs.Replies.{refusedIf, refusedAtFirst, orElse, levelsRefusal, reachRefusal}
+use Rattle.replies.specs.Ranges.{mostCells}
 use Rattle.patterns.specs.Pattern.{Patterns, patternUpTo}
 use Rattle.code.specs.Code.{published}
 
@@ -22,10 +23,10 @@ unfoldable pub patternRefusal : Patterns → List ℕ → Reply
 patternRefusal S cells = refusedAtFirst (patternAt S cells) (length cells) 11
 
 -- 10, then 11, each sought in all the cells.
-unfoldable pub cellsRefusal : ℕ → ℕ → List ℕ → Reply
-cellsRefusal q x cells = orElse (cellRefusal q cells) (patternRefusal (published q x) cells)
+unfoldable pub cellsRefusal : ℕ → Patterns → List ℕ → Reply
+cellsRefusal q S cells = orElse (cellRefusal q cells) (patternRefusal S cells)
 
 -- The pattern finder takes up to 65,536 cells, and answers 7 above that.
 unfoldable pub finding : ℕ → ℕ → List ℕ → Reply
 finding q x cells =
-    orElse (levelsRefusal q) (orElse (reachRefusal x) (orElse (refusedIf (ltb 65536 (length cells)) 7) (cellsRefusal q x cells)))
+    orElse (levelsRefusal q) (orElse (reachRefusal x) (orElse (refusedIf (ltb mostCells (length cells)) 7) (cellsRefusal q (published q x) cells)))

@@ -1,15 +1,12 @@
 // The tests of cells: a cell at or above q, a forbidden pattern; and the pattern finder.
 ghost use mathlib.Core.Path.{_≡_};
-ghost use Rattle.replies.specs.ReplyLaws.{Between};
 ghost use Rattle.code.specs.Code.{published};
+ghost use Rattle.replies.specs.Ranges.{Between};
 ghost use Rattle.cells.specs.Finding.{cellRefusal, patternRefusal, cellsRefusal, finding};
 use replies::Reply;
 
 mod quick;
 mod scan;
-
-// The most cells that the pattern finder takes.
-const MOST_CELLS: usize = 65536;
 
 // Number 10: the first cell at or above q.
 pub fn refused_cell(q: usize, cells: &[u8]) -> Reply
@@ -38,7 +35,7 @@ pub fn refused_pattern(q: usize, x: usize, cells: &[u8]) -> Reply
 // 10, then 11.
 pub fn refused_cells(q: usize, x: usize, cells: &[u8]) -> Reply
     requires { ⌜ Between 2 32 q × Between 1 8 x ⌝ }
-    ensures { λ r. ⌜ r ≡ cellsRefusal q x (now (cells .entry)) ⌝ }
+    ensures { λ r. ⌜ r ≡ cellsRefusal q (published q x) (now (cells .entry)) ⌝ }
 {
     let cell = refused_cell(q, cells);
     if cell.number != replies::DONE {
@@ -60,7 +57,7 @@ pub fn find(q: usize, x: usize, cells: &[u8]) -> Reply
     if reach.number != replies::DONE {
         return reach;
     }
-    let length = replies::refused_if(MOST_CELLS < cells.len(), replies::INPUT_LENGTH);
+    let length = replies::refused_if(replies::MOST_CELLS < cells.len(), replies::INPUT_LENGTH);
     if length.number != replies::DONE {
         return length;
     }

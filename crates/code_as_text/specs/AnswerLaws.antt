@@ -14,7 +14,7 @@ use Rattle.replies.specs.declared.Written.{Written}
 use Rattle.replies.specs.Replies.{done, profileRefusal, roomRefusal}
 use Rattle.replies.specs.ReplyLaws.{has-room, room-enough}
 use Rattle.replies.specs.WritingLaws.{Comes, writing-refused, writing-done, count-inside}
-use Rattle.catalogue.specs.LengthLaws.{wordCount}
+use Rattle.profiles.specs.Profiles.{wordCount}
 use Rattle.text.specs.Text.{bytes, decimal}
 use Rattle.text.specs.Line.{profileIn, isLineOf}
 use Rattle.text.specs.Put.{Put}

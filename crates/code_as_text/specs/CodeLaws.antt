@@ -16,17 +16,17 @@ use Rattle.limbs.specs.OrderLaws.{Ordered, order-says}
 use Rattle.limbs.specs.ValueLaws.{numberAt-more, lowest-limbs}
 use Rattle.replies.specs.declared.Profile.{Profile}
 use Rattle.replies.specs.Replies.{orElse, writingCounted}
-use Rattle.replies.specs.ReplyLaws.{InRange, range-not-refused, room-enough}
-use Rattle.code.specs.Code.{word}
+use Rattle.replies.specs.ReplyLaws.{range-not-refused, room-enough}
+use Rattle.replies.specs.Ranges.{InRange}
 use Rattle.code.specs.Laws.{one-word-of-index}
+use Rattle.profiles.specs.Profiles.{wordCount, wordFor}
 use Rattle.tables.specs.Tables.{tableLength, Belongs, building}
 use Rattle.tables.specs.RowLaws.{built-belongs}
 use Rattle.word_of_index.specs.SpellingLaws.{whole-index}
-use Rattle.catalogue.specs.LengthLaws.{wordCount}
 
 -- The table that is built for a profile in range belongs to it.
 pub built-table : {p : Profile} → InRange p → (lent : List ℕ) {after : List ℕ} → tableLength (p .m) ≤ length lent → after ≡ building p lent .lent
-    → Belongs (p .q) (p .x) (p .m) after
+    → Belongs p (p .m) after
 unfolding building orElse writingCounted
 built-table {p} range lent room e =
     rw (e, range-not-refused p range, room-enough (tableLength (p .m)) (length lent) room) (built-belongs p range _)
@@ -57,7 +57,7 @@ first-limb : (l : List ℕ) (at : ℕ) → numberAt 1 l at ≡ getD l at 0
 unfolding numberAt value
 first-limb l at = numberAt-more 0 l at ∙ rw add-zero (omega arith)
 
-module _ {p : Profile} {table : List ℕ} (belongs : Belongs (p .q) (p .x) (p .m) table) where
+module _ {p : Profile} {table : List ℕ} (belongs : Belongs p (p .m) table) where
   -- Row m, compared with the most words that are listed, says whether there are more.
   pub words-compared : {found order : Order} → found ≡ orderOf (numberAt 10 mostWords 0) (numberAt 10 table (10 * p .m)) → found ≡ order
       → isLess order ≡ ltb 4096 (wordCount p)
@@ -72,7 +72,7 @@ module _ {p : Profile} {table : List ℕ} (belongs : Belongs (p .q) (p .x) (p .m
 
 -- The first m cells of those that a word is spelt into are the word.
 pub cells-spelt : (p : Profile) {i : ℕ} → i < wordCount p → (index lent : List ℕ) {after : List ℕ} → length index ≡ 10 → value index ≡ i
-    → after ≡ take 0 lent ++ (word (p .q) (p .x) (p .m) (numberAt 10 index 0) ++ drop (0 + p .m) lent)
-    → take (p .m) after ≡ word (p .q) (p .x) (p .m) i
+    → after ≡ take 0 lent ++ (wordFor p (numberAt 10 index 0) ++ drop (0 + p .m) lent)
+    → take (p .m) after ≡ wordFor p i
 cells-spelt p {i} below index lent ten same e =
-    rw (e, whole-index index ten, same) (take-at (word (p .q) (p .x) (p .m) i) _ (p .m) (one-word-of-index (p .q) (p .x) (p .m) i below .found .cells))
+    rw (e, whole-index index ten, same) (take-at (wordFor p i) _ (p .m) (one-word-of-index (p .q) (p .x) (p .m) i below .found .cells))

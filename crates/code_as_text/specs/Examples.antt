@@ -1,6 +1,7 @@
 -- Worked examples of the definitions.
 use mathlib.Core.Path.{_≡_, refl}
 use native.Mathlib.Omega.{arith}
+use Rattle.messages.specs.Carrying.{messageRefusal}
 use Rattle.replies.specs.Replies.{orElse, outsideRefusal, profileRefusal}
 use Rattle.patterns.specs.Pattern.{patternFree}
 use Rattle.listing.specs.Same.{same}
@@ -9,7 +10,6 @@ use Rattle.code.specs.Code.{legal, N, word}
 use Rattle.code.specs.Formulas.{countsDownFrom, countByRecursion}
 use Rattle.code.specs.Theorem1.{recursion-counts}
 use Rattle.code.specs.Messages.{messageLength}
-use Rattle.catalogue.specs.Rating.{messageRefusal}
 use Rattle.text.specs.Text.{bytes, decimal, levelsText}
 use Rattle.text.specs.Line.{profileText, numberIn, behindNumber, profileIn, isLineOf}
 use Rattle.code_as_text.specs.Printed.{header, messageText, wordLine, wordLines, answerText, printed}

@@ -9,13 +9,15 @@ use native.Mathlib.Omega.{arith}
 use lib.Dec.{ltb, leb}
 use lib.ListN.{length, length-append}
 use borrow.Author.Tests.{ltb-false, eqb-true}
+use Rattle.messages.specs.Carrying.{messageRefusal}
+use Rattle.messages.specs.LengthLaws.{length-below}
 use Rattle.replies.specs.declared.Profile.{Profile}
 use Rattle.replies.specs.Replies.{isDone, profileRefusal}
 use Rattle.replies.specs.NumberLaws.{picked, profile-number}
-use Rattle.replies.specs.ReplyLaws.{InRange, profile-in-range}
+use Rattle.replies.specs.ReplyLaws.{profile-in-range}
+use Rattle.replies.specs.Ranges.{InRange}
 use Rattle.numbers.specs.Step.{firstIndex, messageOf}
-use Rattle.catalogue.specs.LengthLaws.{wordCount, length-below}
-use Rattle.catalogue.specs.Rating.{messageRefusal}
+use Rattle.profiles.specs.Profiles.{wordCount}
 use Rattle.text.specs.Text.{bytes, decimal}
 use Rattle.text.specs.DecimalLaws.{decimal-length}
 use Rattle.text.specs.Line.{profileText, profileIn, isLineOf}

@@ -6,9 +6,8 @@ use native.Mathlib.Numerals.{add-one}
 use native.Mathlib.Omega.{arith}
 use lib.ListN.{length}
 use Rattle.replies.specs.declared.Profile.{Profile}
-use Rattle.replies.specs.ReplyLaws.{InRange}
-use Rattle.code.specs.Code.{word}
-use Rattle.catalogue.specs.LengthLaws.{wordCount}
+use Rattle.replies.specs.Ranges.{InRange}
+use Rattle.profiles.specs.Profiles.{wordCount, wordFor}
 use Rattle.text.specs.Text.{bytes, decimal, levelsText}
 use Rattle.text.specs.Line.{profileText}
 use Rattle.text.specs.Put.{Fits, Put}
@@ -31,7 +30,7 @@ abbrev pub lineParts : ℕ → List ℕ → ℕ → List (List ℕ)
 lineParts i cells last = decimal i ∷ bytes " " ∷ levelsText cells ∷ bytes " " ∷ messageText last i ∷ bytes "\n" ∷ []
 
 -- A line has these parts.
-pub line-parts : (p : Profile) (i : ℕ) {last : ℕ} {cells : List ℕ} → last ≡ lastCarrying (statedLength p) → cells ≡ word (p .q) (p .x) (p .m) i
+pub line-parts : (p : Profile) (i : ℕ) {last : ℕ} {cells : List ℕ} → last ≡ lastCarrying (statedLength p) → cells ≡ wordFor p i
     → wordLine p i ≡ inRow (lineParts i cells last)
 unfolding wordLine
 line-parts p i carrying spelt = rw (carrying, spelt)

@@ -4,12 +4,11 @@ use mathlib.Core.List.{List, [], _++_}
 use Prim.Native.Nat.{ℕ, zero, suc, _^_}
 use lib.Dec.{ltb, leb, eqb}
 use lib.ListN.{length}
+use Rattle.messages.specs.Carrying.{messageRefusal}
 use Rattle.replies.specs.declared.Profile.{Profile}
 use Rattle.replies.specs.Replies.{isDone, profileRefusal, roomRefusal, Outcome, writing}
 use Rattle.numbers.specs.Step.{firstIndex, messageOf}
-use Rattle.code.specs.Code.{word}
-use Rattle.catalogue.specs.LengthLaws.{wordCount, lengthOf}
-use Rattle.catalogue.specs.Rating.{messageRefusal}
+use Rattle.profiles.specs.Profiles.{wordCount, lengthOf, wordFor}
 use Rattle.text.specs.Text.{bytes, decimal, levelsText}
 use Rattle.text.specs.Line.{profileText, profileIn, isLineOf}
 
@@ -32,7 +31,7 @@ messageText last i = cond (leb firstIndex i && leb i last) (decimal (messageOf i
 -- The line of an index: index, levels joined by commas, and the message or a hyphen.
 unfoldable pub wordLine : Profile → ℕ → List ℕ
 wordLine p i =
-    decimal i ++ (bytes " " ++ (levelsText (word (p .q) (p .x) (p .m) i) ++ (bytes " " ++ (messageText (lastCarrying (statedLength p)) i ++ bytes "\n"))))
+    decimal i ++ (bytes " " ++ (levelsText (wordFor p i) ++ (bytes " " ++ (messageText (lastCarrying (statedLength p)) i ++ bytes "\n"))))
 
 -- The lines of the indices 0, 1, .., n - 1.
 unfoldable pub wordLines : Profile → ℕ → List ℕ

@@ -8,7 +8,7 @@ use lib.Dec.{ltb, leb}
 use lib.ListN.{length}
 use borrow.Author.Tests.{ltb-true, leb-true}
 use Rattle.replies.specs.declared.Profile.{Profile}
-use Rattle.replies.specs.ReplyLaws.{InRange}
+use Rattle.replies.specs.Ranges.{InRange}
 use Rattle.listing.specs.Every.{every}
 use Rattle.listing.specs.Listing.{levelsFrom}
 use Rattle.listing.specs.EachLevel.{each-level}
@@ -17,7 +17,7 @@ use Rattle.code.specs.Formulas.{countsDownFrom, countByRecursion}
 use Rattle.code.specs.Theorem1.{recursion-counts}
 use Rattle.code.specs.Sizes.{counts-rise}
 use Rattle.code.specs.Laws.{one-word-of-index}
-use Rattle.catalogue.specs.LengthLaws.{wordCount}
+use Rattle.profiles.specs.Profiles.{wordCount, countFor, wordFor}
 use Rattle.text.specs.Text.{levelsText}
 use Rattle.text.specs.LevelsLaws.{length-levels}
 
@@ -36,7 +36,7 @@ unfolding countByRecursion countsDownFrom
 all-large = refl
 
 -- At that length every code in range has more than 4,096 words.
-long-is-large : {p : Profile} → InRange p → 4096 < N (p .q) (p .x) (longFrom (p .q))
+long-is-large : {p : Profile} → InRange p → 4096 < countFor p (longFrom (p .q))
 long-is-large {p} range =
     let levels = range .levels in
     let reach = range .reach in
@@ -57,10 +57,10 @@ length-word q x m i k l most =
     let found = one-word-of-index q x m i l .found in rw (found .cells) at (length-levels q k most (word q x m i) (found .levelled))
 
 -- In a code of at most 4,096 words the levels of a word take at most 50 bytes.
-pub small-codes : {p : Profile} → InRange p → wordCount p ≤ 4096 → (i : ℕ) → i < wordCount p → length (levelsText (word (p .q) (p .x) (p .m) i)) ≤ 50
+pub small-codes : {p : Profile} → InRange p → wordCount p ≤ 4096 → (i : ℕ) → i < wordCount p → length (levelsText (wordFor p i)) ≤ 50
 small-codes {p} range few i l = go (leb (p .q) 10) refl (short-words range few)
   where
-    go : (t : Bool) → leb (p .q) 10 ≡ t → p .m < cond t 26 17 → length (levelsText (word (p .q) (p .x) (p .m) i)) ≤ 50
+    go : (t : Bool) → leb (p .q) 10 ≡ t → p .m < cond t 26 17 → length (levelsText (wordFor p i)) ≤ 50
     go true e short = let long = length-word (p .q) (p .x) (p .m) i 0 l (leb-true (p .q) 10 e) in omega arith
     go false e short =
         let levels = range .levels in

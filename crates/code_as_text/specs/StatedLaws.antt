@@ -6,12 +6,13 @@ use native.Mathlib.Nat.{one-mul, lt-of-not-le, mod-eq-of-lt}
 use native.Mathlib.Omega.{arith}
 use lib.Pow.{pow-lt, pow-mono}
 use borrow.Author.Tests.{eqb-true, eq-eqb, ne-eqb}
+use Rattle.messages.specs.Carrying.{messageRefusal}
+use Rattle.messages.specs.LengthLaws.{words-carry}
 use Rattle.replies.specs.declared.Reply.{Reply}
 use Rattle.replies.specs.declared.Profile.{Profile}
 use Rattle.replies.specs.Replies.{isDone}
 use Rattle.code.specs.MessageLaws.{length-is-largest}
-use Rattle.catalogue.specs.LengthLaws.{wordCount, lengthOf, words-carry}
-use Rattle.catalogue.specs.Rating.{messageRefusal}
+use Rattle.profiles.specs.Profiles.{wordCount, lengthOf}
 use Rattle.code_as_text.specs.Printed.{statedLength, lastCarrying}
 
 -- Where number 4 is not given, s is the message length.

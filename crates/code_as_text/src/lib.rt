@@ -5,9 +5,9 @@ ghost use Prim.Native.Nat.{_≤_, _<_};
 ghost use lib.Dec.{ltb};
 ghost use lib.ListN.{length};
 ghost use Rattle.limbs.specs.Limbs.{value};
-ghost use Rattle.replies.specs.ReplyLaws.{InRange};
+ghost use Rattle.replies.specs.Ranges.{InRange};
+ghost use Rattle.profiles.specs.Profiles.{wordCount};
 ghost use Rattle.tables.specs.Tables.{Belongs};
-ghost use Rattle.catalogue.specs.LengthLaws.{wordCount};
 ghost use Rattle.text.specs.Put.{Fits, Put};
 ghost use Rattle.code_as_text.specs.Printed.{statedLength, lastCarrying, header, messageText, wordLine, wordLines, answerText, printed, mostBytes, listing};
 use limbs::Order;
@@ -17,7 +17,7 @@ use replies::Profile;
 use replies::Written;
 
 // No text is longer.
-const MOST_BYTES: usize = 262144;
+pub const MOST_BYTES: usize = 262144;
 
 // The most words that are listed, as ten limbs.
 const MOST_WORDS: [u64; 10] = [4096, 0, 0, 0, 0, 0, 0, 0, 0, 0];
@@ -33,13 +33,13 @@ fn index_of(i: usize) -> Index
 
 // The message length s; 0 where there are no words that carry messages.
 fn stated_length(p: Profile, table: &[u64]) -> usize
-    requires { ⌜ InRange p × Belongs (p .q) (p .x) (p .m) (now table) ⌝ }
+    requires { ⌜ InRange p × Belongs p (p .m) (now table) ⌝ }
     ensures { λ r. ⌜ r ≡ statedLength p ⌝ }
 {
-    if catalogue::refused_message(p).number != DONE {
+    if messages::refused_message(p).number != DONE {
         return 0;
     }
-    catalogue::message_length(p, table)
+    messages::message_length(p, table)
 }
 
 // The last index that carries a message of s bits; 0 where s is 0, for then there is none.
@@ -81,7 +81,7 @@ fn put_message(last: usize, i: usize, out: &mut [u8], at: usize) -> usize
 
 // Puts the line of an index.
 fn put_word(p: Profile, table: &[u64], last: usize, i: usize, out: &mut [u8], at: usize) -> usize
-    requires { ⌜ InRange p × Belongs (p .q) (p .x) (p .m) (now table) × (last ≡ lastCarrying (statedLength p)) × (i < wordCount p) × Fits (now out) at (wordLine p i) ⌝ }
+    requires { ⌜ InRange p × Belongs p (p .m) (now table) × (last ≡ lastCarrying (statedLength p)) × (i < wordCount p) × Fits (now out) at (wordLine p i) ⌝ }
     ensures { λ r. ⌜ Put (now (out .entry)) at (wordLine p i) (now (out .exit)) r ⌝ }
 {
     let index = index_of(i);
@@ -99,7 +99,7 @@ fn put_word(p: Profile, table: &[u64], last: usize, i: usize, out: &mut [u8], at
 
 // Puts the lines of the first n indices.
 fn put_words(p: Profile, table: &[u64], last: usize, n: usize, out: &mut [u8], at: usize) -> usize
-    requires { ⌜ InRange p × Belongs (p .q) (p .x) (p .m) (now table) × (last ≡ lastCarrying (statedLength p)) × (n ≤ wordCount p) × Fits (now out) at (wordLines p n) ⌝ }
+    requires { ⌜ InRange p × Belongs p (p .m) (now table) × (last ≡ lastCarrying (statedLength p)) × (n ≤ wordCount p) × Fits (now out) at (wordLines p n) ⌝ }
     ensures { λ r. ⌜ Put (now (out .entry)) at (wordLines p n) (now (out .exit)) r ⌝ }
 {
     let mut next = at;
@@ -113,7 +113,7 @@ fn put_words(p: Profile, table: &[u64], last: usize, n: usize, out: &mut [u8], a
 
 // Puts the whole code: the header and the line of each index.
 fn put_code(p: Profile, table: &[u64], n: usize, out: &mut [u8]) -> usize
-    requires { ⌜ InRange p × Belongs (p .q) (p .x) (p .m) (now table) × (n ≡ wordCount p) × (n ≤ 4096) × (mostBytes ≤ length (now out)) ⌝ }
+    requires { ⌜ InRange p × Belongs p (p .m) (now table) × (n ≡ wordCount p) × (n ≤ 4096) × (mostBytes ≤ length (now out)) ⌝ }
     ensures { λ r. ⌜ Put (now (out .entry)) 0 (header p ++ wordLines p (wordCount p)) (now (out .exit)) r ⌝ }
 {
     let s = stated_length(p, table);
@@ -123,7 +123,7 @@ fn put_code(p: Profile, table: &[u64], n: usize, out: &mut [u8]) -> usize
 
 // There are more words than are listed.
 fn too_many(p: Profile, table: &[u64]) -> bool
-    requires { ⌜ Belongs (p .q) (p .x) (p .m) (now table) × (p .m ≤ 128) ⌝ }
+    requires { ⌜ Belongs p (p .m) (now table) × (p .m ≤ 128) ⌝ }
     ensures { λ r. ⌜ r ≡ ltb 4096 (wordCount p) ⌝ }
 {
     match limbs::compare(&MOST_WORDS, 10, table, 10 * p.m) {

@@ -11,7 +11,7 @@ use replies::Reply;
 mod on_bits;
 
 // More cells than any call takes, so that a file of more is refused for its length.
-const CELLS: usize = telling::MOST_CELLS + 1;
+const CELLS: usize = replies::MOST_CELLS + 1;
 
 // The bytes of the messages of 256 words, of at most 639 bits each.
 const BYTES: usize = 20448;

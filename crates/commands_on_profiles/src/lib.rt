@@ -241,7 +241,7 @@ fn profiles(line: Line) -> bool {
         }
         return row.right;
     }
-    for row in 0..40 {
+    for row in 0..catalogue::ROWS {
         published(row);
     }
     true

@@ -9,17 +9,17 @@ use lib.Dec.{eqb}
 use lib.ListN.{length, replicate}
 use lib.Pow.{pow-pos}
 use borrow.Author.Tests.{ltb-false, le-ltb, eqb-true, eq-eqb}
+use Rattle.messages.specs.Carrying.{carryingRefusal}
+use Rattle.messages.specs.CarryingLaws.{carries-messages}
 use Rattle.replies.specs.declared.Profile.{Profile}
 use Rattle.replies.specs.Replies.{orElse}
-use Rattle.replies.specs.ReplyLaws.{InRange, both-done, test-failed}
+use Rattle.replies.specs.ReplyLaws.{both-done, test-failed}
+use Rattle.replies.specs.Ranges.{InRange}
 use Rattle.numbers.specs.Step.{indexOf, message-of-index}
 use Rattle.listing.specs.Every.{every, every-replicate, every-equal}
-use Rattle.code.specs.Code.{LegalWord, index}
+use Rattle.code.specs.Code.{index}
 use Rattle.code.specs.Laws.{one-word-of-index, word-of-index-of-word, zeros-index, zeros-only, tops-index}
-use Rattle.catalogue.specs.LengthLaws.{lengthOf}
-use Rattle.catalogue.specs.Rating.{carryingRefusal}
-use Rattle.catalogue.specs.RatingLaws.{carries-messages}
-use Rattle.streams.specs.Streams.{isWord}
+use Rattle.profiles.specs.Profiles.{isWord, lengthOf, LegalFor, indexFor}
 use Rattle.streams.specs.AcceptedLaws.{word-legal}
 use Rattle.streams.specs.JoinedLaws.{legal-word}
 use Rattle.write_stream.specs.Writing.{carrier}
@@ -30,8 +30,8 @@ use Rattle.demands.specs.Outcomes.{carriesMessage, messageCarried}
 
 -- A word carries a message of s bits: it is legal, and its index is the message's.
 pub record Carrier (p : Profile) (w : List ℕ) (message : ℕ) : Type 0 where
-  pub legal : LegalWord (p .q) (p .x) (p .m) w
-  pub its-index : index (p .q) (p .x) w ≡ indexOf message
+  pub legal : LegalFor p w
+  pub its-index : indexFor p w ≡ indexOf message
   pub below : message < 2 ^ lengthOf p
 
 -- A word whose index is not that of the word of one level only is not that word.
@@ -66,22 +66,22 @@ module _ (p : Profile) (table : List ℕ) (ready : carryingRefusal p table .numb
       let bottom = zeros-index (p .q) (p .x) (p .m) in
       rw (
         not-one-level (p .q) (p .x) (p .m) 0 w (c .legal .cells) (λ same. omega arith),
-        le-ltb (2 ^ lengthOf p) (index (p .q) (p .x) w) (omega arith),
+        le-ltb (2 ^ lengthOf p) (indexFor p w) (omega arith),
         not-one-level (p .q) (p .x) (p .m) (p .q - 1) w (c .legal .cells) (λ same. omega (arith, carrying .within)),
       )
 
   -- .. and a legal word that they do not refuse carries its index less one.
-  pub not-silent-carries : (w : List ℕ) → LegalWord (p .q) (p .x) (p .m) w → silentRefusal p w .number ≡ 0 → Carrier p w (messageCarried p w)
+  pub not-silent-carries : (w : List ℕ) → LegalFor p w → silentRefusal p w .number ≡ 0 → Carrier p w (messageCarried p w)
   unfolding silentRefusal
   not-silent-carries w legal e =
       let first = both-done _ _ e in
       let second = both-done _ _ (first .second) in
-      let limit : index (p .q) (p .x) w ≤ 2 ^ lengthOf p = ltb-false _ _ (test-failed _ 14 (second .first)) in
-      let some : index (p .q) (p .x) w ≡ 0 → ⊥ = λ none. true≢false (sym (all-0 none) ∙ test-failed _ 13 (first .first)) in
+      let limit : indexFor p w ≤ 2 ^ lengthOf p = ltb-false _ _ (test-failed _ 14 (second .first)) in
+      let some : indexFor p w ≡ 0 → ⊥ = λ none. true≢false (sym (all-0 none) ∙ test-failed _ 13 (first .first)) in
       let least = pos-of-ne-zero some in
       record { legal = legal; its-index = omega arith; below = omega arith }
     where
-      all-0 : index (p .q) (p .x) w ≡ 0 → every (λ c. eqb c 0) w ≡ true
+      all-0 : indexFor p w ≡ 0 → every (λ c. eqb c 0) w ≡ true
       all-0 none = rw (zeros-only (p .q) (p .x) (p .m) w (in-range .levels .least) legal none) (every-replicate _ (p .m) 0 refl)
 
   -- The words that carry messages pass what each word that carries a message passes: ..

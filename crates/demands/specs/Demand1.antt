@@ -6,15 +6,17 @@ use mathlib.Core.List.{List, _++_}
 use Prim.Native.Nat.{ℕ, _+_, _≤_, _<_}
 use native.Mathlib.Omega.{arith}
 use borrow.Author.Tests.{ne-eqb}
+use Rattle.messages.specs.Carrying.{messageRefusal, carryingRefusal}
+use Rattle.messages.specs.LengthLaws.{number-four}
 use Rattle.replies.specs.declared.Reply.{Reply}
 use Rattle.replies.specs.declared.Profile.{Profile}
 use Rattle.replies.specs.Replies.{done, refused, orElse, writingCounted}
-use Rattle.replies.specs.ReplyLaws.{Between, InRange, range-not-refused}
+use Rattle.replies.specs.ReplyLaws.{range-not-refused}
+use Rattle.replies.specs.Ranges.{Between, InRange, mostWords}
+use Rattle.profiles.specs.Profiles.{streamLength}
 use Rattle.tables.specs.Tables.{tableOf, tableRefusal}
 use Rattle.tables.specs.OtherReach.{longer-reach-refused, shorter-reach-refused}
-use Rattle.catalogue.specs.Rating.{messageRefusal, carryingRefusal}
-use Rattle.catalogue.specs.LengthLaws.{number-four}
-use Rattle.streams.specs.Streams.{streamLength, wordsIn, fitRefusal, bothFitRefusal}
+use Rattle.streams.specs.Streams.{wordsIn, fitRefusal, bothFitRefusal}
 use Rattle.streams.specs.FitLaws.{words-of-length, not-refused-fits, not-refused-both-fit, fits-not-refused, both-fit-not-refused, length-fits}
 use Rattle.write_stream.specs.Writing.{writeRefusal, writingStream}
 use Rattle.read_stream.specs.Reading.{readRefusal, readingStream}
@@ -47,14 +49,14 @@ unfolding turningStream
 refused-turn p cells lent = nothing-written _ _ _ lent
 
 -- 7 is not given exactly where some number of words, at most 256, has that many cells; for two streams, at most 256 together.
-pub fits-exactly : (p : Profile) → InRange p → (cells : ℕ) → (fitRefusal p cells ≡ done) ↔ ((n : ℕ) × (n ≤ 256) × (cells ≡ streamLength p n))
+pub fits-exactly : (p : Profile) → InRange p → (cells : ℕ) → (fitRefusal p cells ≡ done) ↔ ((n : ℕ) × (n ≤ mostWords) × (cells ≡ streamLength p n))
 fits-exactly p range cells = (
   λ e. let f = not-refused-fits p cells (sym e) refl in (wordsIn p cells, f .few, f .exact),
   λ s. rw (s .2) (fits-not-refused p _ (length-fits p (s .0) range (s .1))),
 )
 
 pub both-fit-exactly : (p : Profile) → InRange p → (a b : ℕ)
-    → (bothFitRefusal p a b ≡ done) ↔ ((n : ℕ) × (k : ℕ) × (n + k ≤ 256) × (a ≡ streamLength p n) × (b ≡ streamLength p k))
+    → (bothFitRefusal p a b ≡ done) ↔ ((n : ℕ) × (k : ℕ) × (n + k ≤ mostWords) × (a ≡ streamLength p n) × (b ≡ streamLength p k))
 both-fit-exactly p range a b = (
   λ e. let f = not-refused-both-fit p a b (sym e) refl in (wordsIn p a, wordsIn p b, f .few, f .first, f .second),
   λ s. let e = words-of-length p (s .0) range in

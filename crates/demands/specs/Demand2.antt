@@ -10,10 +10,10 @@ use Rattle.replies.specs.Replies.{Outcome}
 use Rattle.numbers.specs.Step.{indexOf}
 use Rattle.listing.specs.Every.{every}
 use Rattle.code.specs.Laws.{OneWord, one-word-of-index}
-use Rattle.catalogue.specs.LengthLaws.{lengthOf}
+use Rattle.profiles.specs.Profiles.{lengthOf, streamLength}
 use Rattle.bits.specs.Bits.{bytesFor, packed}
 use Rattle.bits.specs.ByteLaws.{allBytes}
-use Rattle.streams.specs.Streams.{Stream, streamLength, wordsOf}
+use Rattle.streams.specs.Streams.{Stream, wordsOf}
 use Rattle.streams.specs.AcceptedLaws.{stream-exact}
 use Rattle.write_stream.specs.Writing.{messagesHeld, messagesOf, carrier, streamWritten, writingStream}
 use Rattle.write_stream.specs.CarrierLaws.{index-below}

@@ -9,12 +9,13 @@ use Prim.Native.Nat.{ℕ, _+_, _≤_}
 use native.Mathlib.Nat.{zero-add, add-zero}
 use native.Mathlib.Omega.{arith}
 use lib.ListN.{length, length-append}
+use Rattle.messages.specs.Carrying.{carryingRefusal}
 use Rattle.replies.specs.declared.Profile.{Profile}
 use Rattle.replies.specs.Replies.{profileRefusal, Outcome}
-use Rattle.replies.specs.ReplyLaws.{InRange, both-done, profile-in-range}
+use Rattle.replies.specs.ReplyLaws.{both-done, profile-in-range}
+use Rattle.replies.specs.Ranges.{InRange, mostWords}
 use Rattle.listing.specs.Every.{every, every-append}
 use Rattle.patterns.specs.Stream.{streamOf}
-use Rattle.catalogue.specs.Rating.{carryingRefusal}
 use Rattle.streams.specs.Streams.{Stream}
 use Rattle.streams.specs.JoinedLaws.{turnedWords, length-turned-words, turned-words-append, joined-stream, turned-stream}
 use Rattle.join_streams.specs.Joining.{joiningStreams, turningStream}
@@ -48,13 +49,13 @@ module _ (p : Profile) (profile : profileRefusal p .number ≡ 0) where
   same-stream f s = record { same = by-words f (s .stream) ∙ sym (s .wrote); wrote = f }
 
   -- Joining two gives such a stream, pattern-free throughout.
-  pub joining-two : {u v : List (List ℕ)} {a b : List ℕ} → Stream p u a → Stream p v b → length u + length v ≤ 256 → (lent : List ℕ)
+  pub joining-two : {u v : List (List ℕ)} {a b : List ℕ} → Stream p u a → Stream p v b → length u + length v ≤ mostWords → (lent : List ℕ)
       → Room p (length u + length v) lent → WroteStream p (u ++ v) lent (joiningStreams p a b lent)
   joining-two s t few lent room = wrote-stream p range (joined-stream p range s t) lent (joining-done p profile s t few lent room)
 
   -- Joining three gives the same cells whichever pair is joined first.
   pub joining-three : {u v w : List (List ℕ)} {a b c : List ℕ} → Stream p u a → Stream p v b → Stream p w c
-      → length u + (length v + length w) ≤ 256 → (one two lent : List ℕ) → Room p (length u + length v) one → Room p (length v + length w) two
+      → length u + (length v + length w) ≤ mostWords → (one two lent : List ℕ) → Room p (length u + length v) one → Room p (length v + length w) two
       → Room p (length u + (length v + length w)) lent
       → SameStream p (u ++ (v ++ w)) lent (joiningStreams p (cellsWritten (joiningStreams p a b one)) c lent)
       (joiningStreams p a (cellsWritten (joiningStreams p b c two)) lent)
@@ -67,7 +68,7 @@ module _ (p : Profile) (profile : profileRefusal p .number ≡ 0) where
       (joining-two s bc (rw grouped few) lent (rw grouped room))
 
   -- An empty stream adds nothing.
-  pub joining-empty : {u : List (List ℕ)} {a : List ℕ} → Stream p u a → length u ≤ 256 → (lent : List ℕ) → Room p (length u) lent
+  pub joining-empty : {u : List (List ℕ)} {a : List ℕ} → Stream p u a → length u ≤ mostWords → (lent : List ℕ) → Room p (length u) lent
       → AddsNothing p a lent
   joining-empty {u} s few lent room =
       let empty : Stream p [] [] = record { legal = refl; bridged = unfold streamOf in refl } in
@@ -77,12 +78,12 @@ module _ (p : Profile) (profile : profileRefusal p .number ≡ 0) where
       }
 
   -- A stream turned is the stream of its words, turned, the last first.
-  pub turning-one : {u : List (List ℕ)} {a : List ℕ} → Stream p u a → length u ≤ 256 → (lent : List ℕ) → Room p (length u) lent
+  pub turning-one : {u : List (List ℕ)} {a : List ℕ} → Stream p u a → length u ≤ mostWords → (lent : List ℕ) → Room p (length u) lent
       → WroteStream p (turnedWords u) lent (turningStream p a lent)
   turning-one s few lent room = wrote-stream p range (turned-stream p range s) lent (turning-done p profile s few lent room)
 
   -- Turning a joined stream gives the two turned streams joined in the other order.
-  pub turning-joined : {u v : List (List ℕ)} {a b : List ℕ} → Stream p u a → Stream p v b → length u + length v ≤ 256
+  pub turning-joined : {u v : List (List ℕ)} {a b : List ℕ} → Stream p u a → Stream p v b → length u + length v ≤ mostWords
       → (one two three lent : List ℕ) → Room p (length u + length v) one → Room p (length v) two → Room p (length u) three
       → Room p (length u + length v) lent
       → SameStream p (turnedWords (u ++ v)) lent (turningStream p (cellsWritten (joiningStreams p a b one)) lent)
@@ -104,14 +105,14 @@ module _ (p : Profile) (table : List ℕ) (ready : carryingRefusal p table .numb
   in-order = both-done _ _ ready .first
 
   -- A stream whose words carry messages reads as its bits, ..
-  pub reading-one : {u : List (List ℕ)} {a : List ℕ} → Stream p u a → every (carriesMessage p) u ≡ true → length u ≤ 256 → (lent : List ℕ)
+  pub reading-one : {u : List (List ℕ)} {a : List ℕ} → Stream p u a → every (carriesMessage p) u ≡ true → length u ≤ mostWords → (lent : List ℕ)
       → BitRoom p (length u) lent → ReadBits p (length u) (bitsRead p a) lent (readingStream p table a lent)
   reading-one s carry few lent room =
       record { read = reading-done p table ready s carry few lent room; count = read-count p (range p in-order) s }
 
   -- .. and two of them joined as the first's bits, then the second's.
   pub reading-joined : {u v : List (List ℕ)} {a b : List ℕ} → Stream p u a → Stream p v b → every (carriesMessage p) u ≡ true
-      → every (carriesMessage p) v ≡ true → length u + length v ≤ 256 → (one lent : List ℕ) → Room p (length u + length v) one
+      → every (carriesMessage p) v ≡ true → length u + length v ≤ mostWords → (one lent : List ℕ) → Room p (length u + length v) one
       → BitRoom p (length u + length v) lent
       → ReadBits p (length u + length v) (bitsRead p a ++ bitsRead p b) lent (readingStream p table (cellsWritten (joiningStreams p a b one)) lent)
   reading-joined {u} {v} s t carry carryToo few one lent room bitRoom =

@@ -5,10 +5,12 @@ use Prim.Native.Nat.{ℕ, _+_, _≤_}
 use lib.ListN.{length, length-append}
 use Rattle.replies.specs.declared.Profile.{Profile}
 use Rattle.replies.specs.Replies.{profileRefusal}
-use Rattle.replies.specs.ReplyLaws.{InRange, profile-in-range, room-enough}
+use Rattle.replies.specs.ReplyLaws.{profile-in-range, room-enough}
 use Rattle.replies.specs.LowestLaws.{lowest-of-done, moved-of-done}
+use Rattle.replies.specs.Ranges.{InRange, mostWords}
 use Rattle.patterns.specs.Stream.{joined, turned}
-use Rattle.streams.specs.Streams.{patternsOf, Stream, streamLength}
+use Rattle.profiles.specs.Profiles.{patternsOf, streamLength}
+use Rattle.streams.specs.Streams.{Stream}
 use Rattle.streams.specs.FitLaws.{both-fit-not-refused, fits-not-refused}
 use Rattle.streams.specs.AcceptedLaws.{stream-exact, stream-accepted}
 use Rattle.streams.specs.JoinedLaws.{joined-stream, stream-fits, both-fit}
@@ -26,7 +28,7 @@ module _ (p : Profile) (profile : profileRefusal p .number ≡ 0) where
   joined-length {u} {v} s t = stream-exact p range _ _ (joined-stream p range s t) ∙ ap (streamLength p) (length-append u v)
 
   -- Two streams of at most 256 words together are joined where there is room for so many words.
-  pub joining-done : {u v : List (List ℕ)} {a b : List ℕ} → Stream p u a → Stream p v b → length u + length v ≤ 256 → (lent : List ℕ)
+  pub joining-done : {u v : List (List ℕ)} {a b : List ℕ} → Stream p u a → Stream p v b → length u + length v ≤ mostWords → (lent : List ℕ)
       → streamLength p (length u + length v) ≤ length lent
       → joiningStreams p a b lent ≡ doneWith (length (joined (patternsOf p) a b)) (joined (patternsOf p) a b) lent
   unfolding joiningStreams joinRefusal
@@ -37,7 +39,7 @@ module _ (p : Profile) (profile : profileRefusal p .number ≡ 0) where
       four-tests-done _ _ lent profile fit enough (lowest-of-done _ _ (stream-accepted p range u a s) second)
 
   -- A stream of at most 256 words is turned where there is room for it.
-  pub turning-done : {u : List (List ℕ)} {a : List ℕ} → Stream p u a → length u ≤ 256 → (lent : List ℕ) → streamLength p (length u) ≤ length lent
+  pub turning-done : {u : List (List ℕ)} {a : List ℕ} → Stream p u a → length u ≤ mostWords → (lent : List ℕ) → streamLength p (length u) ≤ length lent
       → turningStream p a lent ≡ doneWith (length (turned a)) (turned a) lent
   unfolding turningStream turnRefusal
   turning-done {u} {a} s few lent room =

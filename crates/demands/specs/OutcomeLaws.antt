@@ -9,7 +9,7 @@ use borrow.Author.Tests.{eqb-true, eq-eqb}
 use Rattle.replies.specs.declared.Profile.{Profile}
 use Rattle.replies.specs.declared.Reply.{Reply}
 use Rattle.replies.specs.Replies.{done, isDone, orElse, Outcome, writingCounted}
-use Rattle.replies.specs.ReplyLaws.{InRange}
+use Rattle.replies.specs.Ranges.{InRange}
 use Rattle.streams.specs.Streams.{Stream}
 use Rattle.streams.specs.JoinedLaws.{stream-free}
 use Rattle.demands.specs.Outcomes.{Done, doneWith, cellsWritten, WroteStream}

@@ -8,10 +8,9 @@ use Rattle.replies.specs.declared.Profile.{Profile}
 use Rattle.replies.specs.declared.Reply.{Reply}
 use Rattle.replies.specs.Replies.{done, isDone, Outcome}
 use Rattle.numbers.specs.Step.{messageOf}
-use Rattle.code.specs.Code.{legal, index}
-use Rattle.catalogue.specs.LengthLaws.{lengthOf}
+use Rattle.profiles.specs.Profiles.{lengthOf, streamLength, isLegal, indexFor}
 use Rattle.bits.specs.Bits.{bytesFor, packed}
-use Rattle.streams.specs.Streams.{Stream, streamLength}
+use Rattle.streams.specs.Streams.{Stream}
 use Rattle.read_stream.specs.Reading.{silentRefusal}
 
 -- A call is done: its reply is number 0.
@@ -36,7 +35,7 @@ carriesMessage p w = isDone (silentRefusal p w)
 
 -- The message that it carries: its index less one.
 abbrev pub messageCarried : Profile → List ℕ → ℕ
-messageCarried p w = messageOf (index (p .q) (p .x) w)
+messageCarried p w = messageOf (indexFor p w)
 
 -- Room for the cells of n words with their bridges.
 abbrev pub Room : Profile → ℕ → List ℕ → Type 0
@@ -46,7 +45,7 @@ Room p n lent = streamLength p n ≤ length lent
 pub record WroteStream (p : Profile) (words : List (List ℕ)) (lent : List ℕ) (outcome : Outcome) : Type 0 where
   pub wrote : outcome ≡ doneWith (length (cellsWritten outcome)) (cellsWritten outcome) lent
   pub stream : Stream p words (cellsWritten outcome)
-  pub free : legal (p .q) (p .x) (cellsWritten outcome) ≡ true
+  pub free : isLegal p (cellsWritten outcome) ≡ true
 
 -- Room for the bits of n messages.
 abbrev pub BitRoom : Profile → ℕ → List ℕ → Type 0

@@ -5,13 +5,14 @@ use mathlib.Core.List.{List, [], _∷_, _++_, append-assoc, map, map-append}
 use Prim.Native.Nat.{ℕ, _*_, _≤_}
 use lib.ListN.{length, take, length-map}
 use borrow.Author.Tests.{eqb-true, eq-eqb}
+use Rattle.messages.specs.Carrying.{carryingRefusal}
+use Rattle.messages.specs.CarryingLaws.{carries-messages}
 use Rattle.replies.specs.declared.Profile.{Profile}
 use Rattle.replies.specs.Replies.{orElse}
-use Rattle.replies.specs.ReplyLaws.{InRange, both-done, has-room, room-enough}
+use Rattle.replies.specs.ReplyLaws.{both-done, has-room, room-enough}
+use Rattle.replies.specs.Ranges.{InRange, mostWords}
 use Rattle.listing.specs.Every.{every}
-use Rattle.catalogue.specs.LengthLaws.{lengthOf}
-use Rattle.catalogue.specs.Rating.{carryingRefusal}
-use Rattle.catalogue.specs.RatingLaws.{carries-messages}
+use Rattle.profiles.specs.Profiles.{lengthOf}
 use Rattle.bits.specs.Bits.{bytesFor, packed, bitsOfMessages}
 use Rattle.bits.specs.RoundTrip.{length-bitsOfMessages}
 use Rattle.streams.specs.Streams.{Stream, wordsIn, wordsOf, partRefusal}
@@ -51,7 +52,7 @@ module _ (p : Profile) (range : InRange p) where
 
 -- A stream of at most 256 words that carry messages is read where there is room for its bits.
 pub reading-done : (p : Profile) (table : List ℕ) → carryingRefusal p table .number ≡ 0 → {u : List (List ℕ)} {a : List ℕ} → Stream p u a
-    → every (carriesMessage p) u ≡ true → length u ≤ 256 → (lent : List ℕ) → bytesFor (length u * lengthOf p) ≤ length lent
+    → every (carriesMessage p) u ≡ true → length u ≤ mostWords → (lent : List ℕ) → bytesFor (length u * lengthOf p) ≤ length lent
     → readingStream p table a lent ≡ doneWith (length (bitsRead p a)) (packed (bitsRead p a)) lent
 unfolding readingStream readRefusal
 reading-done p table ready {u} {a} s carry few lent room =
@@ -79,7 +80,7 @@ pub record Readable (p : Profile) (table cells lent : List ℕ) : Type 0 where
   pub ready : carryingRefusal p table .number ≡ 0
   pub stream : Stream p (wordsOf p cells) cells
   pub carry : every (carriesMessage p) (wordsOf p cells) ≡ true
-  pub few : length (wordsOf p cells) ≤ 256
+  pub few : length (wordsOf p cells) ≤ mostWords
   pub room : bytesFor (length (wordsOf p cells) * lengthOf p) ≤ length lent
 
 -- Reading that is done has what it asks.

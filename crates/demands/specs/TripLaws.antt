@@ -8,9 +8,9 @@ use native.Mathlib.Omega.{arith}
 use lib.ListN.{length, take, length-append, length-map}
 use lib.Seq.{length-take-le}
 use Rattle.replies.specs.declared.Profile.{Profile}
-use Rattle.replies.specs.ReplyLaws.{InRange}
+use Rattle.replies.specs.Ranges.{InRange}
 use Rattle.listing.specs.Every.{every}
-use Rattle.catalogue.specs.LengthLaws.{lengthOf}
+use Rattle.profiles.specs.Profiles.{lengthOf}
 use Rattle.bits.specs.Bits.{bitsOfBytes, bytesFor, packed}
 use Rattle.bits.specs.BitLaws.{allBits, take-bits, bitsOfBytes-bits, length-bitsOfBytes}
 use Rattle.bits.specs.WithLaws.{length-packedInto}

@@ -8,15 +8,15 @@ use native.Mathlib.Omega.{arith}
 use lib.Dec.{leb, eqb}
 use lib.ListN.{length, getD, length-map}
 use borrow.Author.Tests.{le-ltb, le-leb, leb-true, eqb-false, eq-eqb}
+use Rattle.messages.specs.Carrying.{carryingRefusal}
 use Rattle.replies.specs.declared.Profile.{Profile}
 use Rattle.replies.specs.Replies.{done}
 use Rattle.replies.specs.ReplyLaws.{both-done, none-refused, holds-nowhere, has-room, room-enough}
-use Rattle.catalogue.specs.LengthLaws.{lengthOf}
-use Rattle.catalogue.specs.Rating.{carryingRefusal}
+use Rattle.replies.specs.Ranges.{mostWords}
+use Rattle.profiles.specs.Profiles.{lengthOf, streamLength}
 use Rattle.bits.specs.Bits.{bitsOfBytes, bytesFor}
 use Rattle.bits.specs.BitLaws.{take-bits, bitsOfBytes-bits}
 use Rattle.bits.specs.RoundTrip.{allMessages, length-messagesIn, messagesIn-messages}
-use Rattle.streams.specs.Streams.{streamLength}
 use Rattle.write_stream.specs.Writing.{countRefusal, behindRefusal, messagesHeld, messagesOf, writeRefusal, carrier, streamWritten, writingStream}
 use Rattle.write_stream.specs.RefusalLaws.{counted, few-words}
 use Rattle.demands.specs.Outcomes.{Done, doneWith}
@@ -31,7 +31,7 @@ ClearBehind bytes bits = (i : ℕ) → bits ≤ i → i < 8 * bytesFor bits → 
 pub record Writable (p : Profile) (table bytes : List ℕ) (bits : ℕ) (lent : List ℕ) : Type 0 where
   pub ready : carryingRefusal p table .number ≡ 0
   pub whole : messagesHeld p bits * lengthOf p ≡ bits
-  pub few : messagesHeld p bits ≤ 256
+  pub few : messagesHeld p bits ≤ mostWords
   pub held : bytesFor bits ≤ length bytes
   pub clear : ClearBehind bytes bits
   pub room : streamLength p (messagesHeld p bits) ≤ length lent
@@ -74,7 +74,7 @@ module _ {p : Profile} {table bytes : List ℕ} {bits : ℕ} {lent : List ℕ} w
   unfolding countRefusal
   count-done w =
       let rest : bits % lengthOf p ≡ 0 = rw (w .whole) at (mul-mod-left (messagesHeld p bits) (lengthOf p)) in
-      let most : bits ≤ 256 * lengthOf p = rw (w .whole) at (mul-le-mul-right (lengthOf p) (w .few)) in
+      let most : bits ≤ mostWords * lengthOf p = rw (w .whole) at (mul-le-mul-right (lengthOf p) (w .few)) in
       rw (eq-eqb _ 0 rest, le-ltb _ _ most, le-ltb _ _ (w .held))
 
   -- .. and writing that has it is done: the stream stands in the lent list from the front.

@@ -15,9 +15,11 @@ use Rattle.limbs.specs.UsedLaws.{used-length, numberAt-below-used}
 use Rattle.replies.specs.declared.Reply.{Reply}
 use Rattle.replies.specs.declared.Profile.{Profile}
 use Rattle.replies.specs.Replies.{done, refusedIf, profileRefusal}
-use Rattle.replies.specs.ReplyLaws.{test-failed, both-done, profile-in-range, InRange, decides, leaves}
+use Rattle.replies.specs.ReplyLaws.{test-failed, both-done, profile-in-range, decides, leaves}
+use Rattle.replies.specs.Ranges.{InRange}
 use Rattle.listing.specs.Order.{index-below-count}
-use Rattle.code.specs.Code.{N, LegalWord, legal, index}
+use Rattle.code.specs.Code.{N, index}
+use Rattle.profiles.specs.Profiles.{isLegal, LegalFor, wordCount, indexFor, patternsOf}
 use Rattle.cells.specs.Finding.{cellsRefusal}
 use Rattle.cells.specs.CellLaws.{cells-accepted}
 use Rattle.tables.specs.Tables.{Belongs, tableRefusal}
@@ -43,11 +45,12 @@ limbs-above (suc n) k v l =
     rw suc-add (ap (λ (w : List ℕ). v % base ∷ w) (limbs-above n k (v / base) (div-lt-iff-lt-mul base-positive .1 (rw pow-suc at l))))
 
 -- The index in the n limbs that it fits, with 0 above them, is the index in ten limbs.
-pub index-in-ten : (q x n : ℕ) (cells : List ℕ) → n ≤ 10 → index q x cells < base ^ n → withIndex q x n cells noLimbs ≡ limbsOf 10 (index q x cells)
+pub index-in-ten : (p : Profile) (n : ℕ) (cells : List ℕ) → n ≤ 10 → indexFor p cells < base ^ n
+    → withIndex p n cells noLimbs ≡ limbsOf 10 (indexFor p cells)
 unfolding holding
-index-in-ten q x n cells l h =
+index-in-ten p n cells l h =
     let ten : n + (10 - n) ≡ 10 = omega arith in
-    rw ten at (limbs-above n (10 - n) (index q x cells) h)
+    rw ten at (limbs-above n (10 - n) (indexFor p cells) h)
 
 -- The first test that refuses decides.
 module _ (p : Profile) (table cells : List ℕ) {profile : Reply} (e : profile ≡ profileRefusal p) where
@@ -65,7 +68,7 @@ module _ (p : Profile) (table cells : List ℕ) {profile : Reply} (e : profile �
   length-decides {rows} {long} z f y g n = leaves profile long _ _ e z (leaves rows long _ _ f y (decides long _ _ g n))
 
   pub cells-decide : {rows long cell : Reply} → profile .number ≡ 0 → rows ≡ tableRefusal p table → rows .number ≡ 0
-      → long ≡ refusedIf (not (eqb (length cells) (p .m))) 7 → long .number ≡ 0 → cell ≡ cellsRefusal (p .q) (p .x) cells
+      → long ≡ refusedIf (not (eqb (length cells) (p .m))) 7 → long .number ≡ 0 → cell ≡ cellsRefusal (p .q) (patternsOf p) cells
       → cell ≡ wordRefusal p table cells
   unfolding wordRefusal
   cells-decide {rows} {long} {cell} z f y g w h = leaves profile cell _ _ e z (leaves rows cell _ _ f y (leaves long cell _ _ g w h))
@@ -77,8 +80,8 @@ length-is n m e = eqb-true n m (not-wrong _ (test-failed _ 6 e))
 -- A word that is not refused: the profile is in range, the table belongs to it, and the cells are a legal word.
 pub record NotRefused (p : Profile) (table cells : List ℕ) : Type 0 where
   pub range : InRange p
-  pub belongs : Belongs (p .q) (p .x) (p .m) table
-  pub word : LegalWord (p .q) (p .x) (p .m) cells
+  pub belongs : Belongs p (p .m) table
+  pub word : LegalFor p cells
 
 pub not-refused-word : (p : Profile) (table cells : List ℕ) → wordRefusal p table cells .number ≡ 0 → NotRefused p table cells
 unfolding wordRefusal
@@ -102,15 +105,15 @@ module _ (p : Profile) (table cells : List ℕ) (all : allLimbs table) (s : NotR
   few-limbs : limbsInUse (p .m) table ≤ 10
   few-limbs = le-trans (used-length (take 10 (drop (10 * p .m) table))) (rw length-take (min-le-left 10 _))
 
-  last-row-fits : N (p .q) (p .x) (p .m) < base ^ limbsInUse (p .m) table
+  last-row-fits : wordCount p < base ^ limbsInUse (p .m) table
   last-row-fits = rw (s .belongs .rows (p .m) (le-refl (p .m))) at (numberAt-below-used 10 table (10 * p .m) all)
 
-  index-fits : index (p .q) (p .x) cells < base ^ limbsInUse (p .m) table
+  index-fits : indexFor p cells < base ^ limbsInUse (p .m) table
   unfolding index N
-  index-fits = lt-trans (index-below-count (p .q) (legal (p .q) (p .x)) (p .m) cells (s .word)) last-row-fits
+  index-fits = lt-trans (index-below-count (p .q) (isLegal p) (p .m) cells (s .word)) last-row-fits
 
   -- So its index may be written there, ..
-  pub indexable : Indexable (p .q) (p .x) (limbsInUse (p .m) table) table cells noLimbs
+  pub indexable : Indexable p (limbsInUse (p .m) table) table cells noLimbs
   indexable = record {
     levels = s .range .levels;
     reach = s .range .reach;
@@ -124,12 +127,12 @@ module _ (p : Profile) (table cells : List ℕ) (all : allLimbs table) (s : NotR
   }
 
   -- .. and is then the index in ten limbs.
-  pub index-whole : withIndex (p .q) (p .x) (limbsInUse (p .m) table) cells noLimbs ≡ limbsOf 10 (index (p .q) (p .x) cells)
-  index-whole = index-in-ten (p .q) (p .x) _ cells few-limbs index-fits
+  pub index-whole : withIndex p (limbsInUse (p .m) table) cells noLimbs ≡ limbsOf 10 (indexFor p cells)
+  index-whole = index-in-ten p _ cells few-limbs index-fits
 
 -- The answer where nothing is refused, and where something is.
 pub indexing-done : (p : Profile) (table cells : List ℕ) {sum : List ℕ} → wordRefusal p table cells .number ≡ 0
-    → sum ≡ limbsOf 10 (index (p .q) (p .x) cells) → record { reply = done; index = record { 0 = sum } } ≡ indexing p table cells
+    → sum ≡ limbsOf 10 (indexFor p cells) → record { reply = done; index = record { 0 = sum } } ≡ indexing p table cells
 unfolding indexing
 indexing-done p table cells e f = rw (eq-eqb _ 0 e, f)
 

@@ -6,8 +6,8 @@ use native.Mathlib.Nat.{add-assoc, add-zero, add-suc, suc-add, zero-add, mul-add
 use native.Mathlib.Omega.{arith}
 use lib.ListN.{length, drop, getD, set, replicate, length-set, length-drop, drop-of-length-le}
 use Rattle.combining.specs.Combining.{total}
-use Rattle.replies.specs.ReplyLaws.{Between}
 use Rattle.code.specs.Stretches.{following}
+use Rattle.replies.specs.Ranges.{Between}
 use Rattle.index_of_word.specs.IndexBehind.{indexBehind, guardedRow, guardedFactor, index-behind-none}
 use Rattle.index_of_word.specs.Levels.{factor-beyond, factor-within}
 use Rattle.index_of_word.specs.Parts.{Walks, Part}

@@ -4,18 +4,18 @@ use mathlib.Core.List.{List, [], _∷_}
 use Prim.Native.Nat.{ℕ}
 use Rattle.limbs.specs.Limbs.{value, limbsOf, numberAt}
 use Rattle.replies.specs.declared.Reply.{Reply}
-use Rattle.replies.specs.Replies.{done, refused, refusedAtFirst, orElse, outsideRefusal, profileRefusal}
+use Rattle.replies.specs.Replies.{done, refused, refusedAtFirst, orElse, outsideRefusal, profileRefusal, profileOf}
 use Rattle.patterns.specs.Pattern.{patternFree}
 use Rattle.listing.specs.Listing.{allWords, listed, countOf, before, indexIn}
 use Rattle.code.specs.Code.{legal, N, index}
 use Rattle.cells.specs.Finding.{cellRefusal, patternRefusal, cellsRefusal}
-use Rattle.tables.specs.Tables.{tableRefusal, tableOf}
+use Rattle.tables.specs.Tables.{tableRefusal, tableOf, rowsBelow}
 use Rattle.index_of_word.specs.declared.Indexed.{Indexed}
 use Rattle.index_of_word.specs.Indexing.{wordRefusal, indexing}
 
 -- The index of a word of four levels, asked with the table of a reach.
 abbrev asked : ℕ → ℕ → ℕ → List ℕ → Indexed
-asked m x reach cells = indexing (record { q = 4; m = m; x = x }) (tableOf 4 reach m) cells
+asked m x reach cells = indexing (profileOf 4 m x) (tableOf (profileOf 4 m reach)) cells
 
 abbrev answered : Reply → ℕ → Indexed
 answered reply i = record { reply = reply; index = record { 0 = i ∷ 0 ∷ 0 ∷ 0 ∷ 0 ∷ 0 ∷ 0 ∷ 0 ∷ 0 ∷ 0 ∷ [] } }
@@ -30,7 +30,7 @@ pub record Examples : Type 0 where
   pub cell-before-pattern : asked 4 1 1 (3 ∷ 2 ∷ 3 ∷ 4 ∷ []) ≡ answered (refused 10 3) 0
 
 pub examples : Examples
-unfolding indexing wordRefusal orElse refusedAtFirst profileRefusal outsideRefusal tableRefusal tableOf cellsRefusal cellRefusal patternRefusal
+unfolding indexing wordRefusal orElse refusedAtFirst profileRefusal outsideRefusal tableRefusal rowsBelow cellsRefusal cellRefusal patternRefusal
     N index legal indexIn before countOf listed allWords patternFree value limbsOf numberAt
 examples = record {
   five = refl;

@@ -4,9 +4,9 @@ use native.Mathlib.Nat.{le-refl, le-trans, lt-of-le-of-lt, lt-of-lt-of-le, mul-z
 use native.Mathlib.Omega.{arith}
 use lib.Pow.{pow-add}
 use Rattle.limbs.specs.Limbs.{base}
-use Rattle.replies.specs.ReplyLaws.{Between}
 use Rattle.code.specs.Code.{N}
 use Rattle.code.specs.Sizes.{count-within-power}
+use Rattle.replies.specs.Ranges.{Between}
 
 -- s rows on, a row takes at most one limb more.
 pub record Span (q s : ℕ) : Type 0 where

@@ -9,10 +9,11 @@ use lib.Dec.{lit<}
 use lib.ListN.{length, take, replicate, length-replicate}
 use Rattle.limbs.specs.Limbs.{base, numberAt, holding}
 use Rattle.combining.specs.Combining.{combined, Combinable}
-use Rattle.replies.specs.ReplyLaws.{Between}
 use Rattle.listing.specs.Listing.{allBelow}
-use Rattle.code.specs.Code.{N, legal, index}
 use Rattle.code.specs.Stretches.{following, following-legal, legal-walks}
+use Rattle.replies.specs.declared.Profile.{Profile}
+use Rattle.replies.specs.Ranges.{Between}
+use Rattle.profiles.specs.Profiles.{isLegal, countFor, indexFor}
 use Rattle.tables.specs.Tables.{Belongs}
 use Rattle.tables.specs.TableLaws.{row-stands}
 use Rattle.index_of_word.specs.IndexBehind.{index-behind-open}
@@ -20,20 +21,20 @@ use Rattle.index_of_word.specs.Counts.{weighed, Countable, RowsCounted, 
 use Rattle.index_of_word.specs.Spans.{Span, row-fits}
 
 -- A legal word of at most 128 cells, a table that belongs to the profile and whose rows fit n limbs, and n limbs of `sum`.
-pub record Indexable (q x n : ℕ) (table cells sum : List ℕ) : Type 0 where
-  pub levels : Between 2 32 q
-  pub reach : Between 1 8 x
+pub record Indexable (p : Profile) (n : ℕ) (table cells sum : List ℕ) : Type 0 where
+  pub levels : Between 2 32 (p .q)
+  pub reach : Between 1 8 (p .x)
   pub short : length cells ≤ 128
-  pub levelled : allBelow q cells ≡ true
-  pub passes : legal q x cells ≡ true
-  pub belongs : Belongs q x (length cells) table
+  pub levelled : allBelow (p .q) cells ≡ true
+  pub passes : isLegal p cells ≡ true
+  pub belongs : Belongs p (length cells) table
   pub limbs : n ≤ 10
   pub lent : n ≤ length sum
-  pub rows : N q x (length cells) < base ^ n
+  pub rows : countFor p (length cells) < base ^ n
 
 -- `sum` with the index of a word in its first n limbs.
-abbrev pub withIndex : ℕ → ℕ → ℕ → List ℕ → List ℕ → List ℕ
-withIndex q x n cells sum = holding n (index q x cells) sum
+abbrev pub withIndex : Profile → ℕ → List ℕ → List ℕ → List ℕ
+withIndex p n cells sum = holding n (indexFor p cells) sum
 
 -- k counts of 0, and m of 128.
 abbrev pub zeros : ℕ → List ℕ
@@ -56,7 +57,7 @@ combined-weighed t x n m r table [] rows l = refl
 combined-weighed t x n m r table (c ∷ counts) rows l =
     rw (rows r (omega arith), combined-weighed t x n m (suc r) table counts rows (omega arith))
 
-module _ {q x n : ℕ} {table cells sum : List ℕ} (s : Indexable q x n table cells sum) where
+module _ {p : Profile} {n : ℕ} {table cells sum : List ℕ} (s : Indexable p n table cells sum) where
   no-counts : noCounts (length cells) ≡ zeros (length cells)
   no-counts = taken-zeros (length cells) 128 (s .short)
 
@@ -65,35 +66,35 @@ module _ {q x n : ℕ} {table cells sum : List ℕ} (s : Indexable q x n table c
   counts-length = rw (no-counts, length-replicate)
 
   -- Top is one level less than q.
-  top-first : suc (q - 1) ≡ q
+  top-first : suc (p .q - 1) ≡ p .q
   top-first = omega (arith, s .levels .least)
 
   -- The walkers may count the rows of a word from an open stretch, ..
-  pub countable : Countable (q - 1) x 0 cells (noCounts (length cells))
+  pub countable : Countable (p .q - 1) (p .x) 0 cells (noCounts (length cells))
   countable = rw no-counts (record {
     levels = record { least = omega (arith, s .levels .least); most = omega (arith, s .levels .most) };
     reach = s .reach;
-    walks = record { levelled = rw top-first (s .levelled); stands = legal-walks (q - 1) x cells ∙ rw top-first (s .passes) };
+    walks = record { levelled = rw top-first (s .levelled); stands = legal-walks (p .q - 1) (p .x) cells ∙ rw top-first (s .passes) };
     lent = rw length-replicate (omega arith);
     room = rw total-none (omega (arith, s .short));
   })
 
-  module _ {counts : List ℕ} (kept : length counts ≡ length cells) (counted : RowsCounted (q - 1) x 0 cells (noCounts (length cells)) counts) where
+  module _ {counts : List ℕ} (kept : length counts ≡ length cells) (counted : RowsCounted (p .q - 1) (p .x) 0 cells (noCounts (length cells)) counts) where
     -- .. the rows may be combined as they are counted, ..
-    pub combinable : {span : ℕ} → Span q span → Combinable n span table counts sum
+    pub combinable : {span : ℕ} → Span (p .q) span → Combinable n span table counts sum
     combinable span = record {
       limbs = s .limbs;
       lent = s .lent;
       spans = span .some .most;
       long = omega (arith, s .belongs .long, kept);
-      small = λ j r below inside. rw (s .belongs .rows r (omega (arith, kept))) (row-fits q x j (s .levels .least) span below);
+      small = λ j r below inside. rw (s .belongs .rows r (omega (arith, kept))) (row-fits (p .q) (p .x) j (s .levels .least) span below);
       taken = lt-of-le-of-lt (counted .few) (lit< tt);
     }
 
     -- .. and together are the index.
-    pub combined-index : combined n table 0 counts ≡ index q x cells
+    pub combined-index : combined n table 0 counts ≡ indexFor p cells
     combined-index =
-        combined-weighed (q - 1) x n (length cells) 0 table counts
-        (λ i h. row-stands q x (length cells) n table (s .levels .least) (s .belongs) (s .limbs) (s .rows) i h ∙ rw (following-legal, top-first))
+        combined-weighed (p .q - 1) (p .x) n (length cells) 0 table counts
+        (λ i h. row-stands p (length cells) n table (s .levels .least) (s .belongs) (s .limbs) (s .rows) i h ∙ rw (following-legal, top-first))
         (rw zero-add (omega (arith, kept)))
         ∙ rw (no-counts, weighed-none, zero-add, index-behind-open, top-first) at (counted .weighs)

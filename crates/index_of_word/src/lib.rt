@@ -36,14 +36,14 @@ fn span(q: usize) -> usize
 
 // Writes the index of a legal word to the first n limbs of `sum`, from the rows of a table that
 // belongs to the profile: how often each row is taken is counted first.
-pub fn put_index(q: usize, x: usize, table: &[u64], n: usize, cells: &[u8], sum: &mut [u64])
-    requires { ⌜ Indexable q x n (now table) (now cells) (now sum) ⌝ }
-    ensures { λ _. ⌜ now (sum .exit) ≡ withIndex q x n (now (cells .entry)) (now (sum .entry)) ⌝ }
+pub fn put_index(p: Profile, table: &[u64], n: usize, cells: &[u8], sum: &mut [u64])
+    requires { ⌜ Indexable p n (now table) (now cells) (now sum) ⌝ }
+    ensures { λ _. ⌜ now (sum .exit) ≡ withIndex p n (now (cells .entry)) (now (sum .entry)) ⌝ }
 {
     let mut counts = [0; 128];
     let m = cells.len();
-    stretch::open_stretch((q - 1) as u64, x, cells, 0, &mut counts[..m]);
-    combining::combine(table, &counts[..m], n, span(q), sum);
+    stretch::open_stretch((p.q - 1) as u64, p.x, cells, 0, &mut counts[..m]);
+    combining::combine(table, &counts[..m], n, span(p.q), sum);
 }
 
 // The tests, in the order of their numbers: profile, table, length, cells.
@@ -76,7 +76,7 @@ pub fn index(p: Profile, table: &[u64], cells: &[u8]) -> Indexed
         return Indexed { reply, index: none };
     }
     let n = limbs::limbs_used(table, 10 * p.m, 10);
-    put_index(p.q, p.x, table, n, cells, &mut sum);
+    put_index(p, table, n, cells, &mut sum);
     let index = Index(sum);
     Indexed {
         reply: replies::done(),

@@ -3,7 +3,7 @@ use mathlib.Core.Path.{_≡_, refl}
 use mathlib.Core.List.{List, [], _∷_}
 use Prim.Native.Nat.{ℕ}
 use Rattle.replies.specs.declared.Reply.{Reply}
-use Rattle.replies.specs.Replies.{done, refused, refusedAtFirst, orElse, movedBy, lowest, outsideRefusal, profileRefusal, roomRefusal, Outcome, writingCounted}
+use Rattle.replies.specs.Replies.{done, refused, refusedAtFirst, orElse, movedBy, lowest, outsideRefusal, profileRefusal, roomRefusal, Outcome, writingCounted, profileOf}
 use Rattle.patterns.specs.Stream.{bridge, joined}
 use Rattle.cells.specs.Finding.{cellRefusal, patternRefusal}
 use Rattle.streams.specs.Streams.{wordsIn, fitRefusal, bothFitRefusal, bridgeRefusal, partRefusal, throughout, streamRefusal}
@@ -11,10 +11,10 @@ use Rattle.join_streams.specs.Joining.{joinRefusal, joiningStreams, turn
 
 -- Streams of q levels with words of three cells and a reach of 1.
 abbrev joining : ℕ → List ℕ → List ℕ → List ℕ → Outcome
-joining q a b lent = joiningStreams (record { q = q; m = 3; x = 1 }) a b lent
+joining q a b lent = joiningStreams (profileOf q 3 1) a b lent
 
 abbrev turning : ℕ → List ℕ → List ℕ → Outcome
-turning q cells lent = turningStream (record { q = q; m = 3; x = 1 }) cells lent
+turning q cells lent = turningStream (profileOf q 3 1) cells lent
 
 abbrev answered : Reply → ℕ → List ℕ → Outcome
 answered reply count lent = record { answer = record { reply = reply; count = count }; lent = lent }

@@ -6,7 +6,8 @@ use Rattle.replies.specs.declared.Reply.{Reply}
 use Rattle.replies.specs.declared.Profile.{Profile}
 use Rattle.replies.specs.Replies.{orElse, movedBy, lowest, profileRefusal, roomRefusal, Outcome, writing}
 use Rattle.patterns.specs.Stream.{joined, turned}
-use Rattle.streams.specs.Streams.{patternsOf, fitRefusal, bothFitRefusal, streamRefusal}
+use Rattle.profiles.specs.Profiles.{patternsOf}
+use Rattle.streams.specs.Streams.{fitRefusal, bothFitRefusal, streamRefusal}
 
 -- The tests, in the order of their numbers: profile, lengths, room, cells. Places in the second stream count on from the first's length.
 unfoldable pub joinRefusal : Profile → List ℕ → List ℕ → List ℕ → Reply

@@ -7,10 +7,12 @@ use lib.ListN.{length, drop, length-reverse}
 use Rattle.replies.specs.declared.Reply.{Reply}
 use Rattle.replies.specs.declared.Profile.{Profile}
 use Rattle.replies.specs.Replies.{done, orElse, profileRefusal, roomRefusal}
-use Rattle.replies.specs.ReplyLaws.{InRange, both-done, profile-in-range, has-room}
+use Rattle.replies.specs.ReplyLaws.{both-done, profile-in-range, has-room}
 use Rattle.replies.specs.WritingLaws.{Comes, writing-refused, writing-done}
+use Rattle.replies.specs.Ranges.{InRange}
 use Rattle.patterns.specs.Stream.{joined, turned}
-use Rattle.streams.specs.Streams.{patternsOf, bothFitRefusal, streamRefusal}
+use Rattle.profiles.specs.Profiles.{patternsOf}
+use Rattle.streams.specs.Streams.{bothFitRefusal, streamRefusal}
 use Rattle.streams.specs.FitLaws.{Fits, not-refused-both-fit, few-cells}
 use Rattle.streams.specs.PartLaws.{stream-place}
 use Rattle.join_streams.specs.JoinedLaws.{cellsBetween, between-most}

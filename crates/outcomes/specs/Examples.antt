@@ -3,7 +3,7 @@ use mathlib.Core.Path.{_≡_, refl}
 use mathlib.Core.Bool.{true, false}
 use mathlib.Core.List.{[], _∷_}
 use Rattle.replies.specs.declared.Profile.{Profile}
-use Rattle.replies.specs.Replies.{refused, orElse, outsideRefusal, profileRefusal}
+use Rattle.replies.specs.Replies.{refused, orElse, outsideRefusal, profileRefusal, profileOf}
 use Rattle.text.specs.Text.{bytes, decimal}
 use Rattle.outcomes.specs.Outcomes.{meaning, placeName, placeText, refusalText, cellsAround, nowhere, spotOf}
 
@@ -32,13 +32,13 @@ told = record {
 
 -- Words of 3 cells with bridges of 2 between them.
 abbrev three-and-two : Profile
-three-and-two = record { q = 4; m = 3; x = 2 }
+three-and-two = profileOf 4 3 2
 
 pub record Spots : Type 0 where
   pub in-word : spotOf three-and-two 6 ≡ record { in_bridge = false; word = 1; cell = 1; first = 5; last = 7 }
   pub in-bridge : spotOf three-and-two 9 ≡ record { in_bridge = true; word = 1; cell = 1; first = 8; last = 9 }
   pub past-all-streams : spotOf three-and-two 65536 ≡ nowhere
-  pub out-of-range : spotOf (record { q = 4; m = 0; x = 2 }) 6 ≡ nowhere
+  pub out-of-range : spotOf (profileOf 4 0 2) 6 ≡ nowhere
 
 pub spots : Spots
 unfolding spotOf profileRefusal orElse outsideRefusal

@@ -7,7 +7,8 @@ use borrow.Author.Tests.{leb-false, eqb-true}
 use Rattle.replies.specs.declared.Profile.{Profile}
 use Rattle.replies.specs.declared.Reply.{Reply}
 use Rattle.replies.specs.Replies.{isDone, profileRefusal}
-use Rattle.replies.specs.ReplyLaws.{InRange, profile-in-range}
+use Rattle.replies.specs.ReplyLaws.{profile-in-range}
+use Rattle.replies.specs.Ranges.{InRange}
 use Rattle.outcomes.specs.Outcomes.{spotIn, nowhere, spotOf}
 
 -- A profile and a place that some stream of it may reach.

@@ -9,13 +9,15 @@ use lib.Dec.{eqb}
 use lib.ListN.{length, take, drop}
 use lib.Seq.{take-all}
 use Rattle.replies.specs.declared.Profile.{Profile}
-use Rattle.replies.specs.ReplyLaws.{InRange, both-done, test-failed}
+use Rattle.replies.specs.ReplyLaws.{both-done, test-failed}
 use Rattle.replies.specs.LowestLaws.{lowest-done, moved-done}
+use Rattle.replies.specs.Ranges.{InRange}
 use Rattle.numbers.specs.Step.{firstIndex}
 use Rattle.listing.specs.Every.{every, every-replicate}
 use Rattle.code.specs.Code.{LegalWord, index}
 use Rattle.code.specs.Laws.{zeros-only}
-use Rattle.streams.specs.Streams.{streamLength, wordsIn, stride, throughout}
+use Rattle.profiles.specs.Profiles.{stride, streamLength, LegalFor, indexFor}
+use Rattle.streams.specs.Streams.{wordsIn, throughout}
 use Rattle.streams.specs.PartLaws.{throughout-step, rest-exact}
 use Rattle.streams.specs.AcceptedLaws.{part-word}
 use Rattle.read_stream.specs.Reading.{silentRefusal, readPartRefusal}
@@ -23,8 +25,8 @@ use Rattle.read_stream.specs.TestLaws.{word-inside, readRefusalFrom}
 
 -- A word that carries a message.
 pub record Carrier (p : Profile) (w : List ℕ) : Type 0 where
-  pub word : LegalWord (p .q) (p .x) (p .m) w
-  pub first : firstIndex ≤ index (p .q) (p .x) w
+  pub word : LegalFor p w
+  pub first : firstIndex ≤ indexFor p w
 
 -- A legal word other than that of all 0 has an index of at least that.
 not-zeros : (q x m : ℕ) (w : List ℕ) → 1 < q → LegalWord q x m w → every (λ c. eqb c 0) w ≡ false → firstIndex ≤ index q x w

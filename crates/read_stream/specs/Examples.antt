@@ -3,23 +3,23 @@ use mathlib.Core.Path.{_≡_, refl}
 use mathlib.Core.List.{List, [], _∷_}
 use Prim.Native.Nat.{ℕ}
 use Rattle.limbs.specs.Limbs.{value, limbsOf, numberAt}
+use Rattle.messages.specs.Carrying.{messageRefusal, carryingRefusal}
 use Rattle.replies.specs.declared.Reply.{Reply}
-use Rattle.replies.specs.Replies.{done, refused, refusedAtFirst, orElse, movedBy, lowest, outsideRefusal, profileRefusal, roomRefusal, Outcome, writingCounted}
+use Rattle.replies.specs.Replies.{done, refused, refusedAtFirst, orElse, movedBy, lowest, outsideRefusal, profileRefusal, roomRefusal, Outcome, writingCounted, profileOf}
 use Rattle.patterns.specs.Pattern.{patternFree}
 use Rattle.patterns.specs.Stream.{bridge}
 use Rattle.listing.specs.Listing.{allWords, listed, countOf, before, indexIn}
 use Rattle.code.specs.Code.{legal, N, index}
 use Rattle.code.specs.Messages.{messageLength}
 use Rattle.cells.specs.Finding.{cellRefusal, patternRefusal}
-use Rattle.tables.specs.Tables.{tableRefusal, tableOf}
-use Rattle.catalogue.specs.Rating.{messageRefusal, carryingRefusal}
+use Rattle.tables.specs.Tables.{tableRefusal, tableOf, rowsBelow}
 use Rattle.bits.specs.Bits.{bitsOf, numberOf, packedInto, bitsOfMessages}
 use Rattle.streams.specs.Streams.{wordsIn, fitRefusal, firstWords, bridgeRefusal, partRefusal, throughout}
 use Rattle.read_stream.specs.Reading.{silentRefusal, readPartRefusal, readRefusal, bitsRead, readingStream}
 
 -- Reading where q = 2, m = 3 and x = 1. There are seven words, and messages have two bits.
 abbrev asked : List ℕ → List ℕ → Outcome
-asked cells lent = readingStream (record { q = 2; m = 3; x = 1 }) (tableOf 2 1 3) cells lent
+asked cells lent = readingStream (profileOf 2 3 1) (tableOf (profileOf 2 3 1)) cells lent
 
 abbrev answered : Reply → ℕ → List ℕ → Outcome
 answered reply count lent = record { answer = record { reply = reply; count = count }; lent = lent }
@@ -37,11 +37,11 @@ pub record Outcomes : Type 0 where
   pub no-stream : asked (0 ∷ 0 ∷ 1 ∷ 1 ∷ []) [] ≡ answered (refused 7 0) 0 []
   -- A table of another reach: rows 0 to 3 agree, row 4 does not.
   pub other-reach :
-      readingStream (record { q = 2; m = 4; x = 1 }) (tableOf 2 2 4) (0 ∷ 0 ∷ 0 ∷ 1 ∷ []) (9 ∷ []) ≡ answered (refused 6 4) 0 (9 ∷ [])
+      readingStream (profileOf 2 4 1) (tableOf (profileOf 2 4 2)) (0 ∷ 0 ∷ 0 ∷ 1 ∷ []) (9 ∷ []) ≡ answered (refused 6 4) 0 (9 ∷ [])
 
 pub outcomes : Outcomes
 unfolding readingStream readRefusal readPartRefusal silentRefusal bitsRead writingCounted orElse movedBy lowest profileRefusal outsideRefusal roomRefusal
-    carryingRefusal messageRefusal tableRefusal refusedAtFirst tableOf fitRefusal wordsIn firstWords throughout partRefusal bridgeRefusal bridge
+    carryingRefusal messageRefusal tableRefusal refusedAtFirst rowsBelow fitRefusal wordsIn firstWords throughout partRefusal bridgeRefusal bridge
     cellRefusal patternRefusal messageLength index indexIn N legal countOf listed allWords before patternFree value limbsOf numberAt bitsOf numberOf
     packedInto bitsOfMessages
 outcomes = record {

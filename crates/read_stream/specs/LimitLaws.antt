@@ -10,17 +10,19 @@ use lib.ListN.{length, take, drop}
 use lib.Seq.{take-at}
 use borrow.Author.Tests.{ltb-true, ltb-false}
 use Rattle.limbs.specs.Limbs.{numberAt}
+use Rattle.messages.specs.Carrying.{CarriesMessages}
+use Rattle.messages.specs.LengthLaws.{words-carry, length-below}
 use Rattle.replies.specs.declared.Profile.{Profile}
 use Rattle.listing.specs.Listing.{before}
 use Rattle.code.specs.Code.{LegalWord, N, index, word}
 use Rattle.code.specs.Laws.{OneWord, one-word-of-index, index-in-order, lower-index-first}
 use Rattle.code.specs.MessageLaws.{carrying-before-tops}
-use Rattle.catalogue.specs.LengthLaws.{wordCount, lengthOf, words-carry, length-below, CarriesMessages}
+use Rattle.profiles.specs.Profiles.{wordCount, lengthOf, LegalFor, indexFor, wordFor}
 use Rattle.read_stream.specs.PowerLimbs.{powerLimbs, bit-inside, power-held}
 
 -- The word of the index 2^s.
 unfoldable pub limitOf : Profile → List ℕ
-limitOf p = word (p .q) (p .x) (p .m) (2 ^ lengthOf p)
+limitOf p = wordFor p (2 ^ lengthOf p)
 
 -- Cells that are that word, and there is one.
 pub record Limits (p : Profile) (limit : List ℕ) : Type 0 where
@@ -49,7 +51,7 @@ module _ {p : Profile} {table : List ℕ} {s : ℕ} (ready : CarriesMessages p t
 
   -- It is what is spelt.
   pub limit-spelt : (lent : List ℕ) {after : List ℕ}
-      → after ≡ take 0 lent ++ (word (p .q) (p .x) (p .m) (numberAt 10 (powerLimbs s) 0) ++ drop (0 + p .m) lent)
+      → after ≡ take 0 lent ++ (wordFor p (numberAt 10 (powerLimbs s) 0) ++ drop (0 + p .m) lent)
       → after ≡ limitOf p ++ drop (p .m) lent
   unfolding limitOf
   limit-spelt lent e = rw (held, zero-add) at e
@@ -69,8 +71,8 @@ index-above q x m i w l r = go (before (word q x m i) w) refl (ltb i (index q x 
     go false e true f = sym e ∙ lower-index-first q x m (word q x m i) w (one .found) r (rw (one .its-index) (ltb-true _ _ f))
 
 -- So comparing it with a legal word tells whether 15 applies.
-pub limit-tells : {p : Profile} {limit : List ℕ} (w : List ℕ) → Limits p limit → LegalWord (p .q) (p .x) (p .m) w
-    → before limit w ≡ ltb (2 ^ lengthOf p) (index (p .q) (p .x) w)
+pub limit-tells : {p : Profile} {limit : List ℕ} (w : List ℕ) → Limits p limit → LegalFor p w
+    → before limit w ≡ ltb (2 ^ lengthOf p) (indexFor p w)
 unfolding limitOf
 limit-tells {p} w limits r = rw (limits .cells) (index-above (p .q) (p .x) (p .m) _ w (limits .exists) r)
 

@@ -9,18 +9,19 @@ use lib.Seq.{take-all}
 use Rattle.limbs.specs.Limbs.{base, value, limbsOf, numberAt, allLimbs}
 use Rattle.limbs.specs.ValueLaws.{length-limbsOf, value-limbsOf-below}
 use Rattle.limbs.specs.HoldingLaws.{numberAt-all}
+use Rattle.messages.specs.Carrying.{CarriesMessages}
+use Rattle.messages.specs.LengthLaws.{words-fit, length-below}
 use Rattle.replies.specs.declared.Profile.{Profile}
-use Rattle.replies.specs.ReplyLaws.{InRange}
+use Rattle.replies.specs.Ranges.{InRange}
 use Rattle.numbers.specs.Step.{messageOf}
-use Rattle.code.specs.Code.{index}
 use Rattle.code.specs.Laws.{index-below-N}
+use Rattle.profiles.specs.Profiles.{lengthOf, stride, streamLength, indexFor}
 use Rattle.index_of_word.specs.Answers.{noLimbs, NotRefused, limbsInUse, indexable, index-whole}
 use Rattle.index_of_word.specs.Whole.{Indexable, withIndex}
-use Rattle.catalogue.specs.LengthLaws.{lengthOf, words-fit, length-below, CarriesMessages}
 use Rattle.bits.specs.Bits.{bitsOf, bitsOfMessages, withBits}
 use Rattle.bits.specs.BitLaws.{length-bitsOf, bitsOf-bits}
 use Rattle.bits.specs.WithLaws.{with-bits-more}
-use Rattle.streams.specs.Streams.{streamLength, stride, wordsIn, firstWords}
+use Rattle.streams.specs.Streams.{wordsIn, firstWords}
 use Rattle.streams.specs.FitLaws.{no-word, last-word, rest-of}
 use Rattle.read_stream.specs.Reading.{bitsIn, bitsRead}
 use Rattle.read_stream.specs.CarrierLaws.{Carrier, Readable}
@@ -49,20 +50,20 @@ module _ {p : Profile} {table : List ℕ} {used s : ℕ} (found : Found p table 
     not-refused = record { range = found .ready .inRange; belongs = found .ready .belongs; word = carrier .word }
 
     -- The index of a word that carries a message may be written over 0, and the limbs then hold it.
-    pub word-indexable : Indexable (p .q) (p .x) used table word noLimbs
+    pub word-indexable : Indexable p used table word noLimbs
     word-indexable = rw (found .limbs) (indexable p table word all not-refused)
 
-    index-small : index (p .q) (p .x) word < base ^ 10
+    index-small : indexFor p word < base ^ 10
     index-small = lt-trans (index-below-N (p .q) (p .x) (p .m) word (carrier .word)) (words-fit (found .ready .inRange))
 
-    pub index-held : {sum : List ℕ} → sum ≡ withIndex (p .q) (p .x) used word noLimbs → value sum ≡ index (p .q) (p .x) word
+    pub index-held : {sum : List ℕ} → sum ≡ withIndex p used word noLimbs → value sum ≡ indexFor p word
     index-held e = rw (e, found .limbs, index-whole p table word all not-refused) (value-limbsOf-below 10 index-small)
 
     -- The limbs of the message hold the message.
-    pub message-held : {sum limbs : List ℕ} → sum ≡ withIndex (p .q) (p .x) used word noLimbs → limbs ≡ limbsOf 10 (messageOf (value sum))
-        → numberAt 10 limbs 0 ≡ messageOf (index (p .q) (p .x) word)
+    pub message-held : {sum limbs : List ℕ} → sum ≡ withIndex p used word noLimbs → limbs ≡ limbsOf 10 (messageOf (value sum))
+        → numberAt 10 limbs 0 ≡ messageOf (indexFor p word)
     message-held e f =
-        rw (f, index-held e) (ten-hold (lt-of-le-of-lt (sub-le (index (p .q) (p .x) word) 1) index-small))
+        rw (f, index-held e) (ten-hold (lt-of-le-of-lt (sub-le (indexFor p word) 1) index-small))
 
 -- So its bits are those that are written.
 pub message-put : {number message : ℕ} (s at : ℕ) (before : List ℕ) {after : List ℕ} → number ≡ message
@@ -71,7 +72,7 @@ message-put s at before e a = rw (← e) a
 
 -- The bits of a part's words: none, those of the last word, or of a word and of the part behind it.
 abbrev bitsOfWord : Profile → List ℕ → List ℕ
-bitsOfWord p part = bitsOf (lengthOf p) (messageOf (index (p .q) (p .x) (take (p .m) part)))
+bitsOfWord p part = bitsOf (lengthOf p) (messageOf (indexFor p (take (p .m) part)))
 
 bits-none : (p : Profile) (part : List ℕ) → wordsIn p (length part) ≡ 0 → bitsRead p part ≡ []
 unfolding bitsRead firstWords bitsOfMessages
@@ -118,16 +119,16 @@ module _ {p : Profile} {table : List ℕ} {used s : ℕ} (found : Found p table 
 
   -- .. the bits of the last word, ..
   pub put-last : {after : List ℕ} → 0 < length part → length part ≤ p .m
-      → after ≡ withBits at (bitsOf s (messageOf (index (p .q) (p .x) part))) out → after ≡ withBits at (bitsRead p part) out
+      → after ≡ withBits at (bitsOf s (messageOf (indexFor p part))) out → after ≡ withBits at (bitsRead p part) out
   put-last some last e =
       rw (bits-last p part (last-word p (length part) range (r .exact) some last .0), take-all (p .m) part last, ← (found .bits)) e
 
   -- .. or those of a word and of the part behind it.
   pub put-more : {first after : List ℕ} → p .m < length part → Room (bitsIn p (length part)) at out
-      → first ≡ withBits at (bitsOf s (messageOf (index (p .q) (p .x) (take (p .m) part)))) out
+      → first ≡ withBits at (bitsOf s (messageOf (indexFor p (take (p .m) part)))) out
       → after ≡ withBits (at + s) (bitsRead p (drop (stride p) part)) first → after ≡ withBits at (bitsRead p part) out
   put-more {first} more room e f =
-      let v = messageOf (index (p .q) (p .x) (take (p .m) part)) in
+      let v = messageOf (indexFor p (take (p .m) part)) in
       let inside = room .inside in
       let joined = with-bits-more at (bitsOf s v) (bitsRead p (drop (stride p) part)) out (omega arith) (bitsOf-bits s v) in
       rw (bits-more p part (rest-of p (length part) range (r .exact) more .words), ← (found .bits), ← joined, length-bitsOf) (rw e at f)

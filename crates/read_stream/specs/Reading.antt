@@ -3,14 +3,13 @@ use mathlib.Core.List.{List, map}
 use Prim.Native.Nat.{ℕ, _-_, _*_, _^_}
 use lib.Dec.{ltb, eqb}
 use lib.ListN.{length, take}
+use Rattle.messages.specs.Carrying.{carryingRefusal}
 use Rattle.replies.specs.declared.Reply.{Reply}
 use Rattle.replies.specs.declared.Profile.{Profile}
 use Rattle.replies.specs.Replies.{refusedIf, orElse, roomRefusal, Outcome, writingCounted}
 use Rattle.numbers.specs.Step.{messageOf}
 use Rattle.listing.specs.Every.{every}
-use Rattle.code.specs.Code.{index}
-use Rattle.catalogue.specs.LengthLaws.{lengthOf}
-use Rattle.catalogue.specs.Rating.{carryingRefusal}
+use Rattle.profiles.specs.Profiles.{lengthOf, indexFor}
 use Rattle.bits.specs.Bits.{bytesFor, packed, bitsOfMessages}
 use Rattle.streams.specs.Streams.{wordsIn, fitRefusal, wordsOf, partRefusal, throughout}
 
@@ -18,7 +17,7 @@ use Rattle.streams.specs.Streams.{wordsIn, fitRefusal, wordsOf, partRefusal, th
 unfoldable pub silentRefusal : Profile → List ℕ → Reply
 silentRefusal p w =
     orElse (refusedIf (every (λ c. eqb c 0) w) 14)
-    (orElse (refusedIf (ltb (2 ^ lengthOf p) (index (p .q) (p .x) w)) 15) (refusedIf (every (λ c. eqb c (p .q - 1)) w) 16))
+    (orElse (refusedIf (ltb (2 ^ lengthOf p) (indexFor p w)) 15) (refusedIf (every (λ c. eqb c (p .q - 1)) w) 16))
 
 -- All that reading tests from a word on: 10, 11, 13 in the word and its bridge, then 14, 15, 16 of the word.
 unfoldable pub readPartRefusal : Profile → List ℕ → Reply
@@ -37,7 +36,7 @@ readRefusal p table cells lent =
 
 -- The bits of the messages that the words carry: the message of a word is its index less one.
 unfoldable pub bitsRead : Profile → List ℕ → List ℕ
-bitsRead p cells = bitsOfMessages (lengthOf p) (map (λ w. messageOf (index (p .q) (p .x) w)) (wordsOf p cells))
+bitsRead p cells = bitsOfMessages (lengthOf p) (map (λ w. messageOf (indexFor p w)) (wordsOf p cells))
 
 -- They are packed into bytes, with zero bits to the end of the last byte, and counted.
 unfoldable pub readingStream : Profile → List ℕ → List ℕ → List ℕ → Outcome

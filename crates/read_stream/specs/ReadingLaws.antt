@@ -6,13 +6,14 @@ use Prim.Native.Nat.{ℕ, _*_, _≤_}
 use native.Mathlib.Nat.{le-of-lt, mul-le-mul}
 use native.Mathlib.Omega.{arith}
 use lib.ListN.{length, take}
+use Rattle.messages.specs.Carrying.{carryingRefusal, CarriesMessages}
+use Rattle.messages.specs.LengthLaws.{length-below}
 use Rattle.replies.specs.declared.Reply.{Reply}
 use Rattle.replies.specs.declared.Profile.{Profile}
 use Rattle.replies.specs.Replies.{done, orElse, roomRefusal}
 use Rattle.replies.specs.ReplyLaws.{decides, leaves, both-done, has-room}
 use Rattle.replies.specs.WritingLaws.{Comes, writing-refused, writing-done}
-use Rattle.catalogue.specs.LengthLaws.{lengthOf, length-below, CarriesMessages}
-use Rattle.catalogue.specs.Rating.{carryingRefusal}
+use Rattle.profiles.specs.Profiles.{lengthOf}
 use Rattle.bits.specs.Bits.{bytesFor, withBits}
 use Rattle.bits.specs.WithLaws.{length-packedInto, with-bits-front}
 use Rattle.streams.specs.Streams.{wordsIn, fitRefusal, streamRefusal}

@@ -10,13 +10,12 @@ use Rattle.replies.specs.Replies.{refusedIf, orElse}
 use Rattle.replies.specs.ReplyLaws.{decides, leaves}
 use Rattle.listing.specs.Every.{every}
 use Rattle.listing.specs.Listing.{before}
-use Rattle.code.specs.Code.{LegalWord, index}
-use Rattle.catalogue.specs.LengthLaws.{lengthOf}
+use Rattle.profiles.specs.Profiles.{lengthOf, LegalFor, indexFor}
 use Rattle.read_stream.specs.Reading.{silentRefusal}
 use Rattle.read_stream.specs.LimitLaws.{Limits, limit-tells}
 
 -- A legal word, and the reply of the test for all 0: the first test that refuses decides.
-module _ {p : Profile} {limit w : List ℕ} (limits : Limits p limit) (word : LegalWord (p .q) (p .x) (p .m) w) {zeros : Reply}
+module _ {p : Profile} {limit w : List ℕ} (limits : Limits p limit) (word : LegalFor p w) {zeros : Reply}
     (e : zeros ≡ refusedIf (every (λ c. eqb c 0) w) 14) where
   pub zeros-decide : (zeros .number ≡ 0 → ⊥) → zeros ≡ silentRefusal p w
   unfolding silentRefusal
@@ -34,7 +33,7 @@ module _ {p : Profile} {limit w : List ℕ} (limits : Limits p limit) (word : Le
 -- Each is given at the word's first cell.
 pub silent-place : (p : Profile) (w : List ℕ) → silentRefusal p w .place ≡ 0
 unfolding silentRefusal orElse
-silent-place p w = go (every (λ c. eqb c 0) w) (ltb (2 ^ lengthOf p) (index (p .q) (p .x) w)) (every (λ c. eqb c (p .q - 1)) w)
+silent-place p w = go (every (λ c. eqb c 0) w) (ltb (2 ^ lengthOf p) (indexFor p w)) (every (λ c. eqb c (p .q - 1)) w)
   where
     go : (a b c : Bool) → orElse (refusedIf a 14) (orElse (refusedIf b 15) (refusedIf c 16)) .place ≡ 0
     go true b c = refl

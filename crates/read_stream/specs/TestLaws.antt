@@ -9,8 +9,10 @@ use lib.ListN.{length, take, drop}
 use Rattle.replies.specs.declared.Reply.{Reply}
 use Rattle.replies.specs.declared.Profile.{Profile}
 use Rattle.replies.specs.Replies.{done, movedBy, lowest}
-use Rattle.replies.specs.ReplyLaws.{InRange, decides, leaves}
-use Rattle.streams.specs.Streams.{streamLength, wordsIn, stride, partRefusal, streamRefusal, throughout}
+use Rattle.replies.specs.ReplyLaws.{decides, leaves}
+use Rattle.replies.specs.Ranges.{InRange}
+use Rattle.profiles.specs.Profiles.{stride, streamLength}
+use Rattle.streams.specs.Streams.{wordsIn, partRefusal, streamRefusal, throughout}
 use Rattle.streams.specs.FitLaws.{rest-of}
 use Rattle.streams.specs.PartLaws.{throughout-none, throughout-last, throughout-step, rest-exact, else-place, part-place}
 use Rattle.streams.specs.OrderLaws.{first-clean, rest-clean}

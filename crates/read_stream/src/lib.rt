@@ -2,7 +2,8 @@
 // refusal writes nothing.
 ghost use mathlib.Core.Path.{_≡_};
 ghost use lib.ListN.{length};
-ghost use Rattle.catalogue.specs.LengthLaws.{CarriesMessages, lengthOf};
+ghost use Rattle.profiles.specs.Profiles.{lengthOf};
+ghost use Rattle.messages.specs.Carrying.{CarriesMessages};
 ghost use Rattle.streams.specs.FitLaws.{Fits};
 ghost use Rattle.read_stream.specs.Reading.{readingStream};
 ghost use Rattle.read_stream.specs.TestLaws.{readRefusalFrom};
@@ -11,7 +12,7 @@ use replies::Profile;
 use replies::Reply;
 use replies::Written;
 
-mod messages;
+mod carried;
 mod silent;
 mod tests;
 
@@ -51,14 +52,14 @@ pub fn read(p: Profile, table: &[u64], cells: &[u8], out: &mut [u8]) -> Written
     ensures { λ r. ⌜ r ≡ readingStream p (now (table .entry)) (now (cells .entry)) (now (out .entry)) .answer ⌝ }
     ensures { λ _. ⌜ now (out .exit) ≡ readingStream p (now (table .entry)) (now (cells .entry)) (now (out .entry)) .lent ⌝ }
 {
-    let handed = catalogue::refused_carrying(p, table);
+    let handed = messages::refused_carrying(p, table);
     if handed.number != replies::DONE {
         return Written {
             reply: handed,
             count: 0,
         };
     }
-    let s = catalogue::message_length(p, table);
+    let s = messages::message_length(p, table);
     let refusal = refused_stream(p, table, s, cells, out.len());
     if refusal.number != replies::DONE {
         return Written {
@@ -67,7 +68,7 @@ pub fn read(p: Profile, table: &[u64], cells: &[u8], out: &mut [u8]) -> Written
         };
     }
     let used = limbs::limbs_used(table, 10 * p.m, 10);
-    messages::put_messages(p, table, used, s, cells, out, 0);
+    carried::put_messages(p, table, used, s, cells, out, 0);
     let bits = streams::words_in(p, cells.len()) * s;
     Written {
         reply: replies::done(),

@@ -5,11 +5,11 @@ ghost use mathlib.Core.List.{_++_};
 ghost use Prim.Native.Nat.{_≤_};
 ghost use lib.Dec.{eqb};
 ghost use lib.ListN.{length, drop};
-ghost use Rattle.replies.specs.ReplyLaws.{InRange};
+ghost use Rattle.messages.specs.Carrying.{CarriesMessages};
 ghost use Rattle.listing.specs.Every.{every};
 ghost use Rattle.listing.specs.Listing.{before};
-ghost use Rattle.code.specs.Code.{LegalWord};
-ghost use Rattle.catalogue.specs.LengthLaws.{CarriesMessages, lengthOf};
+ghost use Rattle.replies.specs.Ranges.{InRange};
+ghost use Rattle.profiles.specs.Profiles.{lengthOf, LegalFor};
 ghost use Rattle.read_stream.specs.Reading.{silentRefusal};
 ghost use Rattle.read_stream.specs.LimitLaws.{limitOf, Limits};
 use replies::Profile;
@@ -59,7 +59,7 @@ pub fn spell_limit(p: Profile, table: &[u64], s: usize, limit: &mut [u8])
 // Numbers 14, 15, 16 of a legal word. A word of all top stands behind that of 2^s, so 15 is given
 // before 16 is tested.
 pub fn refused_silent(p: Profile, limit: &[u8], word: &[u8]) -> Reply
-    requires { ⌜ InRange p × Limits p (now limit) × LegalWord (p .q) (p .x) (p .m) (now word) ⌝ }
+    requires { ⌜ InRange p × Limits p (now limit) × LegalFor p (now word) ⌝ }
     ensures { λ r. ⌜ r ≡ silentRefusal p (now (word .entry)) ⌝ }
 {
     let zeros = replies::refused_if(all_at(0, word), replies::ALL_ZERO);

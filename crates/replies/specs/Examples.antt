@@ -1,22 +1,17 @@
 -- Worked examples of the definitions.
 use mathlib.Core.Path.{_≡_, refl}
 use mathlib.Core.List.{[], _∷_}
-use Prim.Native.Nat.{ℕ}
 use lib.Dec.{eqb}
-use Rattle.replies.specs.declared.Profile.{Profile}
-use Rattle.replies.specs.Replies.{done, refused, refusedAtFirst, orElse, movedBy, lowest, outsideRefusal, profileRefusal, roomRefusal, writingCounted, writing}
-
-abbrev of : ℕ → ℕ → ℕ → Profile
-of q m x = record { q = q; m = m; x = x }
+use Rattle.replies.specs.Replies.{profileOf, done, refused, refusedAtFirst, orElse, movedBy, lowest, outsideRefusal, profileRefusal, roomRefusal, writingCounted, writing}
 
 pub record Examples : Type 0 where
-  pub least : profileRefusal (of 2 1 1) ≡ done
-  pub most : profileRefusal (of 32 128 8) ≡ done
-  pub lowest-number : profileRefusal (of 33 0 9) ≡ refused 1 0
-  pub no-cells : profileRefusal (of 2 0 9) ≡ refused 2 0
-  pub too-long : profileRefusal (of 2 129 1) ≡ refused 2 0
-  pub no-reach : profileRefusal (of 2 1 0) ≡ refused 3 0
-  pub too-far : profileRefusal (of 2 1 9) ≡ refused 3 0
+  pub least : profileRefusal (profileOf 2 1 1) ≡ done
+  pub most : profileRefusal (profileOf 32 128 8) ≡ done
+  pub lowest-number : profileRefusal (profileOf 33 0 9) ≡ refused 1 0
+  pub no-cells : profileRefusal (profileOf 2 0 9) ≡ refused 2 0
+  pub too-long : profileRefusal (profileOf 2 129 1) ≡ refused 2 0
+  pub no-reach : profileRefusal (profileOf 2 1 0) ≡ refused 3 0
+  pub too-far : profileRefusal (profileOf 2 1 9) ≡ refused 3 0
   pub one-short : roomRefusal 5 4 ≡ refused 9 0
   pub just-enough : roomRefusal 5 5 ≡ done
   pub first-place : refusedAtFirst (eqb 1) 4 7 ≡ refused 7 1

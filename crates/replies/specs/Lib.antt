@@ -1,5 +1,6 @@
--- Replies holds the definitions, Examples the worked examples; the other files hold the laws.
+-- Replies and Ranges hold the definitions, Examples the worked examples; the other files hold the laws.
 pub mod Replies
+pub mod Ranges
 pub mod Examples
 pub mod ReplyLaws
 pub mod LowestLaws

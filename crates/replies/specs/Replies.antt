@@ -9,6 +9,10 @@ use Rattle.replies.specs.declared.Reply.{Reply}
 use Rattle.replies.specs.declared.Profile.{Profile}
 use Rattle.replies.specs.declared.Written.{Written}
 
+-- A profile of q levels, word length m and reach x. Every definition and example that writes a profile out does it by this.
+abbrev pub profileOf : ℕ → ℕ → ℕ → Profile
+profileOf q m x = record { q = q; m = m; x = x }
+
 -- Done: number 0 at place 0.
 abbrev pub done : Reply
 done = record { number = 0; place = 0 }
@@ -67,9 +71,13 @@ unfoldable pub roomRefusal : ℕ → ℕ → Reply
 roomRefusal needed lent = refusedIf (ltb lent needed) 9
 
 -- The whole outcome of a call that writes: its answer, and the lent list afterwards.
-pub record Outcome : Type 0 where
-  pub answer : Written
+pub record OutcomeOf (A : Type 0) : Type 0 where
+  pub answer : A
   pub lent : List ℕ
+
+-- Most calls answer with a reply and a count.
+abbrev pub Outcome : Type 0
+Outcome = OutcomeOf Written
 
 -- A refusal writes to no lent buffer and counts 0. Done writes exactly the content from the front and gives the count.
 unfoldable pub writingCounted : Reply → ℕ → List ℕ → List ℕ → Outcome

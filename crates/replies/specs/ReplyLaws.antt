@@ -10,6 +10,7 @@ use borrow.Author.Tests.{ltb-false, le-ltb, eqb-true, eq-eqb, ne-eqb}
 use Rattle.replies.specs.declared.Reply.{Reply}
 use Rattle.replies.specs.declared.Profile.{Profile}
 use Rattle.replies.specs.Replies.{done, isDone, refused, refusedIf, refusedFrom, refusedAtFirst, orElse, outsideRefusal, profileRefusal, roomRefusal}
+use Rattle.replies.specs.Ranges.{Between, InRange}
 
 -- A first reply that refuses decides; one that is done leaves it to the second.
 pub decides : (r a b : Reply) → r ≡ a → (r .number ≡ 0 → ⊥) → r ≡ orElse a b
@@ -39,10 +40,6 @@ test-failed true number e = absurd (omega arith)
 test-failed false number e = refl
 
 -- What is not refused lies from low to high.
-pub record Between (low high n : ℕ) : Type 0 where
-  pub least : low ≤ n
-  pub most : n ≤ high
-
 pub in-range : (low high n number : ℕ) {r : Reply} → r ≡ outsideRefusal low high n (suc number) → r .number ≡ 0 → Between low high n
 unfolding outsideRefusal
 in-range low high n number e none = go (ltb n low) (ltb high n) refl refl (test-failed (ltb n low || ltb high n) number (rw e at none))
@@ -53,11 +50,6 @@ in-range low high n number e none = go (ltb n low) (ltb high n) refl refl (test-
     go false true s t f = absurd (true≢false f)
 
 -- A profile that is not refused lies in the range of document 01.
-pub record InRange (p : Profile) : Type 0 where
-  pub levels : Between 2 32 (p .q)
-  pub length : Between 1 128 (p .m)
-  pub reach : Between 1 8 (p .x)
-
 pub profile-in-range : (p : Profile) {r : Reply} → r ≡ profileRefusal p → r .number ≡ 0 → InRange p
 unfolding profileRefusal
 profile-in-range p e none =

@@ -27,6 +27,12 @@ pub struct Written {
     pub count: usize,
 }
 
+// The most words of a stream.
+pub const MOST_WORDS: usize = 256;
+
+// The most cells that the pattern finder takes; no stream has as many.
+pub const MOST_CELLS: usize = 65536;
+
 // The numbers of document 01.
 pub const DONE: u8 = 0;
 

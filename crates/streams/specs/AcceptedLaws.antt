@@ -11,23 +11,25 @@ use borrow.Author.Tests.{lt-ltb, eqb-true, eq-eqb, not-false}
 use Rattle.replies.specs.declared.Reply.{Reply}
 use Rattle.replies.specs.declared.Profile.{Profile}
 use Rattle.replies.specs.Replies.{done, orElse}
-use Rattle.replies.specs.ReplyLaws.{InRange, both-done, none-refused, holds-nowhere}
+use Rattle.replies.specs.ReplyLaws.{both-done, none-refused, holds-nowhere}
 use Rattle.replies.specs.LowestLaws.{moved-of-done, moved-done}
+use Rattle.replies.specs.Ranges.{InRange}
 use Rattle.listing.specs.Every.{every, every-append, every-implies, every-replicate}
 use Rattle.listing.specs.Listing.{allBelow}
 use Rattle.patterns.specs.Pattern.{Patterns}
 use Rattle.patterns.specs.Stream.{bridge, firstCell, lastCell, hasLength, streamOf}
 use Rattle.patterns.specs.StreamLaws.{stream-length}
-use Rattle.code.specs.Code.{legal, LegalWord}
+use Rattle.code.specs.Code.{legal}
+use Rattle.profiles.specs.Profiles.{patternsOf, isWord, stride, streamLength, isLegal, LegalFor}
 use Rattle.cells.specs.CellLaws.{cells-below, below-not-refused, cells-legal, legal-not-refused}
-use Rattle.streams.specs.Streams.{patternsOf, isWord, Stream, streamLength, stride, wordsIn, firstWords, wordsOf, bridgeIn, rightBridge, bridgeRefusal, partRefusal, streamRefusal}
+use Rattle.streams.specs.Streams.{Stream, wordsIn, firstWords, wordsOf, bridgeIn, rightBridge, bridgeRefusal, partRefusal, streamRefusal}
 use Rattle.streams.specs.FitLaws.{length-step, words-of-length}
 use Rattle.streams.specs.EachLaws.{FromEach, each-implies, each-done, throughout-done}
 
 -- What 10, 11, 13 ask of the part from a word on.
 record RightPart (p : Profile) (part : List ℕ) : Type 0 where
   levelled : allBelow (p .q) (take (stride p) part) ≡ true
-  passes : legal (p .q) (p .x) (take (p .m) part) ≡ true
+  passes : isLegal p (take (p .m) part) ≡ true
   bridged : (i : ℕ) → i < length (bridgeIn p part) → getD (bridgeIn p part) i 0 ≡ getD (rightBridge p part) i 0
 
 part-right : (p : Profile) (part : List ℕ) → partRefusal p part .number ≡ 0 → RightPart p part
@@ -90,15 +92,15 @@ parts-make-stream p range (suc (suc n)) part exact each =
     }
 
 -- A word of a profile is a legal word.
-pub word-legal : (p : Profile) (w : List ℕ) → isWord p w ≡ true → LegalWord (p .q) (p .x) (p .m) w
+pub word-legal : (p : Profile) (w : List ℕ) → isWord p w ≡ true → LegalFor p w
 word-legal p w h =
-    let first = and-eq-true-iff (hasLength (p .m) w) (allBelow (p .q) w && legal (p .q) (p .x) w) .0 h in
-    let second = and-eq-true-iff (allBelow (p .q) w) (legal (p .q) (p .x) w) .0 (first .1) in
+    let first = and-eq-true-iff (hasLength (p .m) w) (allBelow (p .q) w && isLegal p w) .0 h in
+    let second = and-eq-true-iff (allBelow (p .q) w) (isLegal p w) .0 (first .1) in
     record { cells = eqb-true (length w) (p .m) (first .0); levelled = second .0; passes = second .1 }
 
 -- A word that 10 and 11 let through is one.
 pub part-word : (p : Profile) (part : List ℕ) {r : Reply} → p .m ≤ length part → r ≡ partRefusal p part → r .number ≡ 0
-    → LegalWord (p .q) (p .x) (p .m) (take (p .m) part)
+    → LegalFor p (take (p .m) part)
 part-word p part inside e none = word-legal p (take (p .m) part) (right-word p part inside (part-right p part (rw e at none)))
 
 bridge-below : (p : Profile) (before after : ℕ) → InRange p → allBelow (p .q) (bridge (patternsOf p) before after) ≡ true

@@ -12,10 +12,12 @@ use lib.Seq.{length-take-le, take-all, take-nil, getD-take, getD-drop, paste, pa
 use borrow.Author.Tests.{eq-eqb, ne-eqb}
 use Rattle.replies.specs.declared.Profile.{Profile}
 use Rattle.replies.specs.Replies.{done, refused, refusedFrom, refusedAtFirst, orElse, movedBy}
-use Rattle.replies.specs.ReplyLaws.{InRange, Nowhere, first-refused, none-refused}
+use Rattle.replies.specs.ReplyLaws.{Nowhere, first-refused, none-refused}
+use Rattle.replies.specs.Ranges.{InRange}
 use Rattle.patterns.specs.Stream.{bridge, firstCell, lastCell}
+use Rattle.profiles.specs.Profiles.{patternsOf, stride}
 use Rattle.cells.specs.Finding.{patternRefusal, cellsRefusal}
-use Rattle.streams.specs.Streams.{patternsOf, stride, bridgeIn, rightBridge, bridgeRefusal, partRefusal}
+use Rattle.streams.specs.Streams.{bridgeIn, rightBridge, bridgeRefusal, partRefusal}
 
 -- The level of all cells of the bridge between two cells.
 abbrev pub bridgeLevel : Profile → ℕ → ℕ → ℕ
@@ -128,7 +130,7 @@ alone-from place test (suc n) number = go (test place) (alone-from (suc place) t
     go false e = e
 
 -- A word alone is refused as its cells are.
-pub word-alone : (p : Profile) (part : List ℕ) → length part ≤ p .m → cellsRefusal (p .q) (p .x) part ≡ partRefusal p part
+pub word-alone : (p : Profile) (part : List ℕ) → length part ≤ p .m → cellsRefusal (p .q) (patternsOf p) part ≡ partRefusal p part
 unfolding cellsRefusal partRefusal patternRefusal refusedAtFirst
 word-alone p part short =
     rw (take-all (stride p) part (omega arith), take-all (p .m) part short, no-bridge p part short, alone-from 0 _ (length part) 10)

@@ -10,7 +10,8 @@ use Rattle.replies.specs.declared.Profile.{Profile}
 use Rattle.replies.specs.Replies.{done, movedBy}
 use Rattle.replies.specs.LowestLaws.{lowest-of-done, lowest-done, moved-done}
 use Rattle.listing.specs.Every.{every}
-use Rattle.streams.specs.Streams.{stride, firstWords, throughout}
+use Rattle.profiles.specs.Profiles.{stride}
+use Rattle.streams.specs.Streams.{firstWords, throughout}
 
 -- A fact of the part from each of n words on.
 abbrev pub FromEach : Profile → (List ℕ → Type 0) → ℕ → List ℕ → Type 0

@@ -9,8 +9,10 @@ use borrow.Author.Tests.{ltb-false, le-ltb, eqb-true, eq-eqb, not-false}
 use Rattle.replies.specs.declared.Reply.{Reply}
 use Rattle.replies.specs.declared.Profile.{Profile}
 use Rattle.replies.specs.Replies.{done}
-use Rattle.replies.specs.ReplyLaws.{InRange, test-failed}
-use Rattle.streams.specs.Streams.{streamLength, stride, wordsIn, fitsNone, fitRefusal, bothFitRefusal}
+use Rattle.replies.specs.ReplyLaws.{test-failed}
+use Rattle.replies.specs.Ranges.{InRange}
+use Rattle.profiles.specs.Profiles.{stride, streamLength}
+use Rattle.streams.specs.Streams.{wordsIn, fitsNone, fitRefusal, bothFitRefusal}
 
 -- One word more, with a bridge, where there is a word already.
 pub length-step : (p : Profile) (n : ℕ) → streamLength p (suc (suc n)) ≡ stride p + streamLength p (suc n)

@@ -7,13 +7,14 @@ use native.Mathlib.Omega.{arith}
 use lib.ListN.{length, length-map, length-reverse}
 use borrow.Author.Tests.{eq-eqb}
 use Rattle.replies.specs.declared.Profile.{Profile}
-use Rattle.replies.specs.ReplyLaws.{InRange}
+use Rattle.replies.specs.Ranges.{InRange}
 use Rattle.listing.specs.Every.{every, every-append, every-reverse, every-implies}
 use Rattle.patterns.specs.Stream.{filled, joined, turned}
 use Rattle.patterns.specs.StreamLaws.{stream-joined, stream-turned}
-use Rattle.code.specs.Code.{legal, LegalWord}
+use Rattle.code.specs.Code.{legal}
 use Rattle.code.specs.Laws.{turned-legal, stream-legal}
-use Rattle.streams.specs.Streams.{patternsOf, isWord, Stream}
+use Rattle.profiles.specs.Profiles.{patternsOf, isWord, isLegal, LegalFor}
+use Rattle.streams.specs.Streams.{Stream}
 use Rattle.streams.specs.FitLaws.{Fits, BothFit, length-fits}
 use Rattle.streams.specs.AcceptedLaws.{word-legal, stream-exact, stream-count}
 
@@ -33,7 +34,7 @@ filled-by-length [] some = absurd (omega arith)
 filled-by-length (c ∷ w) some = refl
 
 -- A legal word is a word of the profile.
-pub legal-word : (p : Profile) (w : List ℕ) → LegalWord (p .q) (p .x) (p .m) w → isWord p w ≡ true
+pub legal-word : (p : Profile) (w : List ℕ) → LegalFor p w → isWord p w ≡ true
 legal-word p w r = rw (eq-eqb _ _ (r .cells), r .levelled, r .passes)
 
 every-turned : (p : Profile) (words : List (List ℕ)) → every (isWord p) words ≡ true → every (isWord p) (map reverse words) ≡ true
@@ -48,9 +49,9 @@ module _ (p : Profile) (range : InRange p) where
       every-implies (isWord p) filled (λ w h. filled-by-length w (omega (arith, word-legal p w h .cells, range .length .least)))
 
   -- A stream has no pattern throughout.
-  pub stream-free : {words : List (List ℕ)} {cells : List ℕ} → Stream p words cells → legal (p .q) (p .x) cells ≡ true
+  pub stream-free : {words : List (List ℕ)} {cells : List ℕ} → Stream p words cells → isLegal p cells ≡ true
   stream-free {words} s =
-      let passes = every-implies (isWord p) (legal (p .q) (p .x)) (λ w h. word-legal p w h .passes) words (s .legal) in
+      let passes = every-implies (isWord p) (isLegal p) (λ w h. word-legal p w h .passes) words (s .legal) in
       rw (← (s .bridged)) (stream-legal (p .q) (p .x) words (range .levels .least) (words-filled words (s .legal)) passes)
 
   -- Two streams joined are the stream of the words of the first, then those of the second.

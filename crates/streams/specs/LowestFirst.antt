@@ -12,7 +12,8 @@ use borrow.Author.Tests.{eqb-true, eqb-false, leb-true, leb-false}
 use Rattle.replies.specs.declared.Reply.{Reply}
 use Rattle.replies.specs.declared.Profile.{Profile}
 use Rattle.replies.specs.Replies.{done, isDone, refused, movedBy, lowest}
-use Rattle.streams.specs.Streams.{stride, throughout}
+use Rattle.profiles.specs.Profiles.{stride}
+use Rattle.streams.specs.Streams.{throughout}
 use Rattle.streams.specs.EachLaws.{FromEach, each-done}
 
 -- The part of a stream from word k on.

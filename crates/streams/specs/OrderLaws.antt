@@ -9,14 +9,15 @@ use lib.Seq.{drop-drop}
 use Rattle.replies.specs.declared.Reply.{Reply}
 use Rattle.replies.specs.declared.Profile.{Profile}
 use Rattle.replies.specs.Replies.{done, orElse}
-use Rattle.replies.specs.ReplyLaws.{InRange}
+use Rattle.replies.specs.Ranges.{InRange}
 use Rattle.listing.specs.Every.{every-append}
 use Rattle.listing.specs.Listing.{allBelow}
 use Rattle.patterns.specs.OccursLaws.{front-free, back-free}
 use Rattle.code.specs.Code.{legal}
+use Rattle.profiles.specs.Profiles.{stride, streamLength, patternsOf}
 use Rattle.cells.specs.CellLaws.{Accepted, cells-accepted, below-not-refused, legal-not-refused}
 use Rattle.cells.specs.Finding.{cellsRefusal}
-use Rattle.streams.specs.Streams.{streamLength, stride, wordsIn, bridgeRefusal, partRefusal, streamRefusal}
+use Rattle.streams.specs.Streams.{wordsIn, bridgeRefusal, partRefusal, streamRefusal}
 use Rattle.streams.specs.FitLaws.{no-word, last-word, rest-of}
 use Rattle.streams.specs.BridgeLaws.{RightCells, right-from, none-wrong, no-bridge}
 use Rattle.streams.specs.PartLaws.{rest-exact}
@@ -118,7 +119,7 @@ part-in-order p part a right =
     )
 
 -- A stream that as one run of cells is refused neither 10 nor 11, and whose bridges are right, is not refused.
-pub in-order : (p : Profile) (cells : List ℕ) {run : Reply} → run ≡ cellsRefusal (p .q) (p .x) cells → run .number ≡ 0 → RightBridges p cells
+pub in-order : (p : Profile) (cells : List ℕ) {run : Reply} → run ≡ cellsRefusal (p .q) (patternsOf p) cells → run .number ≡ 0 → RightBridges p cells
     → streamRefusal p cells ≡ done
 unfolding streamRefusal RightBridges
 in-order p cells e none right =

@@ -11,9 +11,10 @@ use lib.Seq.{take-all}
 use Rattle.replies.specs.declared.Reply.{Reply}
 use Rattle.replies.specs.declared.Profile.{Profile}
 use Rattle.replies.specs.Replies.{done, isDone, refused, refusedFrom, refusedAtFirst, orElse, movedBy, lowest}
-use Rattle.replies.specs.ReplyLaws.{InRange}
+use Rattle.replies.specs.Ranges.{InRange}
+use Rattle.profiles.specs.Profiles.{stride, streamLength}
 use Rattle.cells.specs.Finding.{cellRefusal, patternRefusal}
-use Rattle.streams.specs.Streams.{streamLength, stride, wordsIn, bridgeRefusal, partRefusal, throughout, streamRefusal}
+use Rattle.streams.specs.Streams.{wordsIn, bridgeRefusal, partRefusal, throughout, streamRefusal}
 use Rattle.streams.specs.FitLaws.{few-words, no-word, last-word, rest-of}
 
 -- The cells from a place on, as a slice that goes to the end.

@@ -8,33 +8,17 @@ use lib.ListN.{length, take, drop, getD}
 use Rattle.replies.specs.declared.Reply.{Reply}
 use Rattle.replies.specs.declared.Profile.{Profile}
 use Rattle.replies.specs.Replies.{done, refusedIf, refusedAtFirst, orElse, movedBy, lowest}
+use Rattle.replies.specs.Ranges.{mostWords}
 use Rattle.listing.specs.Every.{every}
-use Rattle.listing.specs.Listing.{allBelow}
-use Rattle.patterns.specs.Pattern.{Patterns}
-use Rattle.patterns.specs.Stream.{bridge, firstCell, lastCell, hasLength, streamOf}
-use Rattle.code.specs.Code.{published, legal}
+use Rattle.patterns.specs.Stream.{bridge, firstCell, lastCell, streamOf}
+use Rattle.code.specs.Code.{legal}
+use Rattle.profiles.specs.Profiles.{patternsOf, isWord, stride, streamLength}
 use Rattle.cells.specs.Finding.{cellRefusal, patternRefusal}
-
--- The patterns of a profile.
-abbrev pub patternsOf : Profile → Patterns
-patternsOf p = published (p .q) (p .x)
-
--- A word of a profile: m cells, each below q, and no forbidden pattern.
-abbrev pub isWord : Profile → List ℕ → Bool
-isWord p w = hasLength (p .m) w && (allBelow (p .q) w && legal (p .q) (p .x) w)
 
 -- A stream: legal words with the right bridges between neighbours and none after the last.
 pub record Stream (p : Profile) (words : List (List ℕ)) (cells : List ℕ) : Type 0 where
   pub legal : every (isWord p) words ≡ true
   pub bridged : streamOf (patternsOf p) words ≡ cells
-
--- n words with their bridges have nm + (n-1)x cells.
-abbrev pub streamLength : Profile → ℕ → ℕ
-streamLength p n = n * p .m + (n - 1) * p .x
-
--- From the first cell of a word to that of the next.
-abbrev pub stride : Profile → ℕ
-stride p = p .m + p .x
 
 -- How many words a stream of so many cells has: a bridge behind the last word would make it m + x cells a word.
 unfoldable pub wordsIn : Profile → ℕ → ℕ
@@ -46,10 +30,10 @@ fitsNone p cells = not (eqb cells (streamLength p (wordsIn p cells)))
 
 -- 7: a length that fits no stream, or over 256 words; for two streams, both together.
 unfoldable pub fitRefusal : Profile → ℕ → Reply
-fitRefusal p cells = refusedIf (fitsNone p cells || ltb 256 (wordsIn p cells)) 7
+fitRefusal p cells = refusedIf (fitsNone p cells || ltb mostWords (wordsIn p cells)) 7
 
 unfoldable pub bothFitRefusal : Profile → ℕ → ℕ → Reply
-bothFitRefusal p a b = refusedIf (fitsNone p a || (fitsNone p b || ltb 256 (wordsIn p a + wordsIn p b))) 7
+bothFitRefusal p a b = refusedIf (fitsNone p a || (fitsNone p b || ltb mostWords (wordsIn p a + wordsIn p b))) 7
 
 -- The first n words of a stream: a word, and the rest of the stream from behind its bridge.
 unfoldable pub firstWords : Profile → ℕ → List ℕ → List (List ℕ)

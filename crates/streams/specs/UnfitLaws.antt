@@ -8,8 +8,9 @@ use lib.Dec.{ltb, eqb}
 use borrow.Author.Tests.{ltb-true, lt-ltb, eqb-true, eqb-false, eq-eqb, ne-eqb}
 use Rattle.replies.specs.declared.Profile.{Profile}
 use Rattle.replies.specs.Replies.{refused, refusedIf}
-use Rattle.replies.specs.ReplyLaws.{InRange}
-use Rattle.streams.specs.Streams.{streamLength, stride, wordsIn, fitsNone, fitRefusal, bothFitRefusal}
+use Rattle.replies.specs.Ranges.{InRange}
+use Rattle.profiles.specs.Profiles.{stride, streamLength}
+use Rattle.streams.specs.Streams.{wordsIn, fitsNone, fitRefusal, bothFitRefusal}
 use Rattle.streams.specs.FitLaws.{length-and-bridge, Fits, neither, not-refused-fits, few-cells, no-word}
 
 -- No stream of at most 256 words has so many cells.

@@ -5,9 +5,10 @@ ghost use mathlib.Core.List.{_++_};
 ghost use Prim.Native.Nat.{_+_, _-_, _^_, _<_};
 ghost use lib.ListN.{length, take, drop, getD};
 ghost use Rattle.replies.specs.Replies.{done};
-ghost use Rattle.replies.specs.ReplyLaws.{InRange};
+ghost use Rattle.replies.specs.Ranges.{InRange};
 ghost use Rattle.patterns.specs.Stream.{bridge};
-ghost use Rattle.streams.specs.Streams.{patternsOf, stride, streamLength, wordsIn, fitRefusal, bothFitRefusal, bridgeRefusal, partRefusal, throughout, streamRefusal};
+ghost use Rattle.profiles.specs.Profiles.{patternsOf, stride, streamLength};
+ghost use Rattle.streams.specs.Streams.{wordsIn, fitRefusal, bothFitRefusal, bridgeRefusal, partRefusal, throughout, streamRefusal};
 ghost use Rattle.streams.specs.FitLaws.{Fits};
 ghost use Rattle.streams.specs.UnfitLaws.{unfit};
 ghost use Rattle.streams.specs.BridgeLaws.{bridgeLevel, RightCells};
@@ -15,10 +16,8 @@ ghost use Rattle.streams.specs.OrderLaws.{RightBridges};
 use replies::Profile;
 use replies::Reply;
 
-// The most words of a stream, and the most cells: no word has more than 128, no bridge more than 8.
-const MOST_WORDS: usize = 256;
-
-const MOST_CELLS: usize = 34816;
+// No stream has more cells: no word has more than 128, no bridge more than 8.
+const MOST_CELLS: usize = replies::MOST_WORDS * 136;
 
 // How many words a stream of so many cells has.
 pub fn words_in(p: Profile, cells: usize) -> usize
@@ -40,7 +39,7 @@ fn unfit(p: Profile, cells: usize) -> bool
     if cells == 0 {
         return false;
     }
-    ((cells + p.x) % (p.m + p.x) != 0) | (MOST_WORDS < words_in(p, cells))
+    ((cells + p.x) % (p.m + p.x) != 0) | (replies::MOST_WORDS < words_in(p, cells))
 }
 
 // Number 7 for one stream.
@@ -60,7 +59,7 @@ pub fn refused_both_fit(p: Profile, a: usize, b: usize) -> Reply
         return replies::refused_at(replies::INPUT_LENGTH, 0);
     }
     let words = words_in(p, a) + words_in(p, b);
-    replies::refused_if(MOST_WORDS < words, replies::INPUT_LENGTH)
+    replies::refused_if(replies::MOST_WORDS < words, replies::INPUT_LENGTH)
 }
 
 // The level of all cells of the bridge between two cells.

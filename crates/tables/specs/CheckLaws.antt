@@ -15,7 +15,7 @@ use Rattle.limbs.specs.HoldingLaws.{numberAt-all}
 use Rattle.limbs.specs.ValueLaws.{power-positive, value-limbsOf-below, numberAt-more, numberAt-below}
 use Rattle.replies.specs.declared.Profile.{Profile}
 use Rattle.replies.specs.Replies.{refused}
-use Rattle.replies.specs.ReplyLaws.{InRange}
+use Rattle.replies.specs.Ranges.{InRange}
 use Rattle.tables.specs.declared.counting.Stage.{Stage}
 use Rattle.tables.specs.Tables.{tableLength, rowRight, Belongs, tableRefusal}
 use Rattle.tables.specs.TableLaws.{not-wrong, not-right, table-wrong, belongs-first, belongs-more}
@@ -62,7 +62,7 @@ module _ (number table : List ℕ) (at : ℕ) where
 -- Row i was compared with N(i): it is wrong or right.
 module _ {p : Profile} (table : List ℕ) (range : InRange p) (long : tableLength (p .m) ≤ length table) where
   -- Row 0 is 1.
-  first-row : {found : Bool} → found ≡ not (eqb (numberAt 10 table 0) (value one)) → found ≡ not (rowRight (p .q) (p .x) table 0)
+  first-row : {found : Bool} → found ≡ not (eqb (numberAt 10 table 0) (value one)) → found ≡ not (rowRight p table 0)
   unfolding value
   first-row e = e ∙ rw (one-word range)
 
@@ -70,23 +70,23 @@ module _ {p : Profile} (table : List ℕ) (range : InRange p) (long : tableLengt
   first-row-wrong e f = table-wrong p table long 0 zero-le (λ k l. absurd (omega arith)) (not-right _ (sym (first-row e) ∙ f))
 
   pub first-row-right : {i : ℕ} {found : Bool} → i ≡ 0 → found ≡ not (eqb (numberAt 10 table 0) (value one)) → found ≡ false
-      → Belongs (p .q) (p .x) i table
-  first-row-right z e f = rw z (belongs-first (p .q) (p .x) table (omega arith) (eqb-true _ _ (not-wrong _ (sym (first-row e) ∙ f))))
+      → Belongs p i table
+  first-row-right z e f = rw z (belongs-first p table (omega arith) (eqb-true _ _ (not-wrong _ (sym (first-row e) ∙ f))))
 
   -- The row after those that are right.
-  module _ {at after : Stage} {next fresh : List ℕ} (before : Belongs (p .q) (p .x) (at .i) table) (step : Advanced p at after next fresh)
+  module _ {at after : Stage} {next fresh : List ℕ} (before : Belongs p (at .i) table) (step : Advanced p at after next fresh)
       {found : Bool} (compared : found ≡ not (eqb (numberAt 10 table (10 * after .i)) (value next))) where
     inside : at .i + 1 ≤ p .m
     inside = rw (step .row) at (step .counted .inside)
 
-    next-row : found ≡ not (rowRight (p .q) (p .x) table (at .i + 1))
+    next-row : found ≡ not (rowRight p table (at .i + 1))
     next-row = compared ∙ rw (step .row, step .held, value-limbsOf-below 10 (count-in-ten p range (at .i + 1) inside))
 
     pub next-row-wrong : found ≡ true → tableRefusal p table ≡ refused 6 (after .i)
     next-row-wrong f =
         rw (step .row) (table-wrong p table long (at .i + 1) inside (λ k l. before .rows k (omega arith)) (not-right _ (sym next-row ∙ f)))
 
-    pub next-row-right : found ≡ false → Belongs (p .q) (p .x) (after .i) table
+    pub next-row-right : found ≡ false → Belongs p (after .i) table
     next-row-right f =
         let fits = inside in
-        rw (step .row) (belongs-more (p .q) (p .x) (at .i) table before (omega arith) (eqb-true _ _ (not-wrong _ (sym next-row ∙ f))))
+        rw (step .row) (belongs-more p (at .i) table before (omega arith) (eqb-true _ _ (not-wrong _ (sym next-row ∙ f))))

@@ -7,11 +7,12 @@ use native.Mathlib.Numerals.{add-one, sub-one}
 use native.Mathlib.Omega.{arith}
 use borrow.Author.Tests.{ne-eqb}
 use Rattle.replies.specs.declared.Profile.{Profile}
-use Rattle.replies.specs.Replies.{done, refused}
-use Rattle.replies.specs.ReplyLaws.{Between, InRange}
+use Rattle.replies.specs.Replies.{done, refused, profileOf}
+use Rattle.replies.specs.Ranges.{Between, InRange}
 use Rattle.code.specs.Code.{N}
 use Rattle.code.specs.Stretches.{following-none}
 use Rattle.code.specs.Theorem1.{count-of-no-cells, count-of-one-cell}
+use Rattle.profiles.specs.Profiles.{countFor}
 use Rattle.tables.specs.Tables.{tableOf, Belongs, tableRefusal}
 use Rattle.tables.specs.TableLaws.{table-wrong, table-right}
 use Rattle.tables.specs.Counting.{afterTop}
@@ -66,34 +67,38 @@ rows-part q x y l h =
 
 -- A profile, and the table of another reach, with anything behind it.
 module _ (p : Profile) (range : InRange p) (y : ℕ) (reach : Between 1 8 y) (rest : List ℕ) where
-  other-rows : Belongs (p .q) y (p .m) (tableOf (p .q) y (p .m) ++ rest)
-  other-rows =
-      built-belongs (record { q = p .q; m = p .m; x = y }) (record { levels = range .levels; length = range .length; reach = reach }) rest
+  -- The profile of the other reach.
+  abbrev other : Profile
+  other = profileOf (p .q) (p .m) y
 
-  first-parted : (i : ℕ) → i ≤ p .m → ((k : ℕ) → k < i → N (p .q) y k ≡ N (p .q) (p .x) k) → (N (p .q) y i ≡ N (p .q) (p .x) i → ⊥)
-      → tableRefusal p (tableOf (p .q) y (p .m) ++ rest) ≡ refused 6 i
+  other-rows : Belongs other (p .m) (tableOf other ++ rest)
+  other-rows =
+      built-belongs other (record { levels = range .levels; length = range .length; reach = reach }) rest
+
+  first-parted : (i : ℕ) → i ≤ p .m → ((k : ℕ) → k < i → countFor other k ≡ countFor p k) → (countFor other i ≡ countFor p i → ⊥)
+      → tableRefusal p (tableOf other ++ rest) ≡ refused 6 i
   first-parted i l agree part =
-      table-wrong p (tableOf (p .q) y (p .m) ++ rest) (other-rows .long) i l (λ k h. other-rows .rows k (omega arith) ∙ agree k h)
+      table-wrong p (tableOf other ++ rest) (other-rows .long) i l (λ k h. other-rows .rows k (omega arith) ∙ agree k h)
       (ne-eqb _ _ (λ e. part (sym (other-rows .rows i l) ∙ e)))
 
   -- It is refused 3 rows behind the lesser reach, ..
-  pub longer-reach-refused : p .x < y → p .x + 3 ≤ p .m → tableRefusal p (tableOf (p .q) y (p .m) ++ rest) ≡ refused 6 (p .x + 3)
+  pub longer-reach-refused : p .x < y → p .x + 3 ≤ p .m → tableRefusal p (tableOf other ++ rest) ≡ refused 6 (p .x + 3)
   longer-reach-refused h l =
       let parts = rows-part (p .q) (p .x) y (range .levels .least) h in
       first-parted (p .x + 3) l (λ k j. sym (rows-agree (p .q) (p .x) y k (some-levels range) (omega arith) (omega arith))) (λ e. omega arith)
 
-  pub shorter-reach-refused : y < p .x → y + 3 ≤ p .m → tableRefusal p (tableOf (p .q) y (p .m) ++ rest) ≡ refused 6 (y + 3)
+  pub shorter-reach-refused : y < p .x → y + 3 ≤ p .m → tableRefusal p (tableOf other ++ rest) ≡ refused 6 (y + 3)
   shorter-reach-refused h l =
       let parts = rows-part (p .q) y (p .x) (range .levels .least) h in
       first-parted (y + 3) l (λ k j. rows-agree (p .q) y (p .x) k (some-levels range) (omega arith) (omega arith)) (λ e. omega arith)
 
   -- .. and taken where it has no such row: every row that it needs is right.
-  pub longer-reach-taken : p .x < y → p .m ≤ p .x + 2 → tableRefusal p (tableOf (p .q) y (p .m) ++ rest) ≡ done
+  pub longer-reach-taken : p .x < y → p .m ≤ p .x + 2 → tableRefusal p (tableOf other ++ rest) ≡ done
   longer-reach-taken h l =
-      table-right p (tableOf (p .q) y (p .m) ++ rest) (other-rows .long)
+      table-right p (tableOf other ++ rest) (other-rows .long)
       (λ i j. other-rows .rows i j ∙ sym (rows-agree (p .q) (p .x) y i (some-levels range) (omega arith) (omega arith)))
 
-  pub shorter-reach-taken : y < p .x → p .m ≤ y + 2 → tableRefusal p (tableOf (p .q) y (p .m) ++ rest) ≡ done
+  pub shorter-reach-taken : y < p .x → p .m ≤ y + 2 → tableRefusal p (tableOf other ++ rest) ≡ done
   shorter-reach-taken h l =
-      table-right p (tableOf (p .q) y (p .m) ++ rest) (other-rows .long)
+      table-right p (tableOf other ++ rest) (other-rows .long)
       (λ i j. other-rows .rows i j ∙ rows-agree (p .q) y (p .x) i (some-levels range) (omega arith) (omega arith))

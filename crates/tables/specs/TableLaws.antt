@@ -13,8 +13,8 @@ use Rattle.limbs.specs.ValueLaws.{lowest-limbs}
 use Rattle.replies.specs.declared.Profile.{Profile}
 use Rattle.replies.specs.Replies.{done, refused, refusedAtFirst, orElse}
 use Rattle.replies.specs.ReplyLaws.{both-done, test-failed, holds-nowhere, first-refused, none-refused}
-use Rattle.code.specs.Code.{N}
 use Rattle.code.specs.Sizes.{counts-rise}
+use Rattle.profiles.specs.Profiles.{countFor}
 use Rattle.tables.specs.Tables.{tableLength, rowRight, Belongs, tableRefusal}
 
 -- A row is right or wrong.
@@ -27,11 +27,11 @@ not-right true e = absurd (true≢false (sym e))
 not-right false e = refl
 
 -- A table that is not refused belongs.
-pub table-belongs : (p : Profile) (table : List ℕ) → tableRefusal p table .number ≡ 0 → Belongs (p .q) (p .x) (p .m) table
+pub table-belongs : (p : Profile) (table : List ℕ) → tableRefusal p table .number ≡ 0 → Belongs p (p .m) table
 unfolding tableRefusal
 table-belongs p table e =
     let b = both-done _ _ e in
-    let none = holds-nowhere (λ i. not (rowRight (p .q) (p .x) table i)) (p .m + 1) 5 (b .second) in
+    let none = holds-nowhere (λ i. not (rowRight p table i)) (p .m + 1) 5 (b .second) in
     record {
       long = ltb-false _ _ (test-failed _ 4 (b .first));
       rows = λ i l. eqb-true _ _ (not-wrong _ (none i (omega arith) (omega arith)));
@@ -43,38 +43,38 @@ unfolding tableRefusal orElse
 table-short p table l = rw (lt-ltb (length table) (tableLength (p .m)) l)
 
 module _ (p : Profile) (table : List ℕ) (long : tableLength (p .m) ≤ length table) where
-  rows-decide : tableRefusal p table ≡ refusedAtFirst (λ i. not (rowRight (p .q) (p .x) table i)) (p .m + 1) 6
+  rows-decide : tableRefusal p table ≡ refusedAtFirst (λ i. not (rowRight p table i)) (p .m + 1) 6
   unfolding tableRefusal orElse
   rows-decide = rw (le-ltb (length table) (tableLength (p .m)) long)
 
-  pub table-wrong : (i : ℕ) → i ≤ p .m → ((k : ℕ) → k < i → numberAt 10 table (10 * k) ≡ N (p .q) (p .x) k) → rowRight (p .q) (p .x) table i ≡ false
+  pub table-wrong : (i : ℕ) → i ≤ p .m → ((k : ℕ) → k < i → numberAt 10 table (10 * k) ≡ countFor p k) → rowRight p table i ≡ false
       → tableRefusal p table ≡ refused 6 i
   table-wrong i l before wrong =
       rows-decide ∙ first-refused _ (p .m + 1) 6 i (λ k _ h. rw (eq-eqb _ _ (before k h))) (rw wrong) (omega arith)
 
-  pub table-right : ((i : ℕ) → i ≤ p .m → numberAt 10 table (10 * i) ≡ N (p .q) (p .x) i) → tableRefusal p table ≡ done
+  pub table-right : ((i : ℕ) → i ≤ p .m → numberAt 10 table (10 * i) ≡ countFor p i) → tableRefusal p table ≡ done
   table-right rows = rows-decide ∙ none-refused _ (p .m + 1) 6 (λ k _ h. rw (eq-eqb _ _ (rows k (omega arith))))
 
 -- A table belongs row by row.
-pub belongs-first : (q x : ℕ) (table : List ℕ) → tableLength 0 ≤ length table → numberAt 10 table 0 ≡ N q x 0 → Belongs q x 0 table
-belongs-first q x table long e = record { long = long; rows = go }
+pub belongs-first : (p : Profile) (table : List ℕ) → tableLength 0 ≤ length table → numberAt 10 table 0 ≡ countFor p 0 → Belongs p 0 table
+belongs-first p table long e = record { long = long; rows = go }
   where
-    go : (i : ℕ) → i ≤ 0 → numberAt 10 table (10 * i) ≡ N q x i
+    go : (i : ℕ) → i ≤ 0 → numberAt 10 table (10 * i) ≡ countFor p i
     go zero l = e
     go (suc i) l = absurd (omega arith)
 
-pub belongs-more : (q x i : ℕ) (table : List ℕ) → Belongs q x i table → tableLength (i + 1) ≤ length table
-    → numberAt 10 table (10 * (i + 1)) ≡ N q x (i + 1) → Belongs q x (i + 1) table
-belongs-more q x i table b long e =
+pub belongs-more : (p : Profile) (i : ℕ) (table : List ℕ) → Belongs p i table → tableLength (i + 1) ≤ length table
+    → numberAt 10 table (10 * (i + 1)) ≡ countFor p (i + 1) → Belongs p (i + 1) table
+belongs-more p i table b long e =
     record { long = long; rows = λ k l. ⊎-elim (λ (s : k ≡ i + 1). rw s e) (λ (s : k < i + 1). b .rows k (omega arith)) (eq-or-lt-of-le l) }
 
 -- A table that belongs to m cells belongs to fewer.
-pub belongs-fewer : (q x i m : ℕ) (table : List ℕ) → i ≤ m → Belongs q x m table → Belongs q x i table
-belongs-fewer q x i m table l b = record { long = let g = b .long in omega arith; rows = λ j h. b .rows j (omega arith) }
+pub belongs-fewer : (p : Profile) (i m : ℕ) (table : List ℕ) → i ≤ m → Belongs p m table → Belongs p i table
+belongs-fewer p i m table l b = record { long = let g = b .long in omega arith; rows = λ j h. b .rows j (omega arith) }
 
 -- A row stands in as many limbs as the last one fits.
-pub row-stands : (q x m n : ℕ) (table : List ℕ) → 1 < q → Belongs q x m table → n ≤ 10 → N q x m < base ^ n
-    → (i : ℕ) → i ≤ m → numberAt n table (10 * i) ≡ N q x i
-row-stands q x m n table l b few fits i h =
+pub row-stands : (p : Profile) (m n : ℕ) (table : List ℕ) → 1 < p .q → Belongs p m table → n ≤ 10 → countFor p m < base ^ n
+    → (i : ℕ) → i ≤ m → numberAt n table (10 * i) ≡ countFor p i
+row-stands p m n table l b few fits i h =
     let right = b .rows i h in
-    lowest-limbs n 10 table (10 * i) few (rw right (lt-of-le-of-lt (counts-rise q x i m l h) fits)) ∙ right
+    lowest-limbs n 10 table (10 * i) few (rw right (lt-of-le-of-lt (counts-rise (p .q) (p .x) i m l h) fits)) ∙ right

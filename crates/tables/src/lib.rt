@@ -6,7 +6,7 @@ ghost use lib.Dec.{eqb};
 ghost use lib.ListN.{length};
 ghost use Rattle.limbs.specs.Limbs.{value, numberAt};
 ghost use Rattle.replies.specs.Replies.{orElse, roomRefusal};
-ghost use Rattle.replies.specs.ReplyLaws.{InRange};
+ghost use Rattle.replies.specs.Ranges.{InRange};
 ghost use Rattle.tables.specs.Tables.{tableLength, tableRefusal, building, handingOut};
 use replies::Profile;
 use replies::Reply;

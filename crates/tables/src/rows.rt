@@ -2,7 +2,7 @@
 ghost use mathlib.Core.Path.{_≡_};
 ghost use Prim.Native.Nat.{_+_, _≤_};
 ghost use lib.ListN.{length};
-ghost use Rattle.replies.specs.ReplyLaws.{InRange};
+ghost use Rattle.replies.specs.Ranges.{InRange};
 ghost use Rattle.tables.specs.Rows.{withRow, frontRows};
 ghost use Rattle.tables.specs.Tables.{tableLength};
 use super::counting;
@@ -24,7 +24,7 @@ pub fn store(out: &mut [u64], i: usize, number: &[u64])
 pub fn build(p: Profile, out: &mut [u64])
     requires { ⌜ InRange p ⌝ }
     requires { ⌜ tableLength (p .m) ≤ length (now out) ⌝ }
-    ensures { λ _. ⌜ now (out .exit) ≡ frontRows (p .q) (p .x) (p .m + 1) (now (out .entry)) ⌝ }
+    ensures { λ _. ⌜ now (out .exit) ≡ frontRows p (p .m + 1) (now (out .entry)) ⌝ }
 {
     let mut fresh = counting::ONE;
     let mut stage = counting::first(p);

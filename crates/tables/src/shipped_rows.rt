@@ -5,7 +5,7 @@ ghost use lib.ListN.{length};
 ghost use Rattle.code.specs.Code.{N};
 ghost use Rattle.limbs.specs.Limbs.{limbsOf};
 ghost use Rattle.tables.specs.Rows.{withRow, frontRows};
-ghost use Rattle.tables.specs.Tables.{tableLength};
+ghost use Rattle.tables.specs.Tables.{tableLength, shippedProfile};
 use super::rows;
 
 const SHIPPED: [u64; 516] = [
@@ -544,7 +544,7 @@ fn copy_row(out: &mut [u64], i: usize)
 // Copies rows 0 to m.
 pub fn copy(m: usize, out: &mut [u64])
     requires { ⌜ (m ≤ 128) × (tableLength m ≤ length (now out)) ⌝ }
-    ensures { λ _. ⌜ now (out .exit) ≡ frontRows 4 1 (m + 1) (now (out .entry)) ⌝ }
+    ensures { λ _. ⌜ now (out .exit) ≡ frontRows (shippedProfile m) (m + 1) (now (out .entry)) ⌝ }
 {
     let mut i = 0;
     while i < m + 1 {

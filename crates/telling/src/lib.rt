@@ -3,9 +3,6 @@ use command_line::Line;
 use replies::Profile;
 use replies::Reply;
 
-// No call takes more cells.
-pub const MOST_CELLS: usize = 65536;
-
 // Some text.
 pub fn text(t: &[u8]) {
     io::write_all(1, t);
@@ -86,7 +83,7 @@ fn around(name: &[u8], cells: &[u8], place: usize) {
 // A refusal of a file of cells: how many there are, where their number may be what was refused; or the
 // cells around the place, which counts from the file's first cell.
 pub fn of_cells(reply: Reply, name: &[u8], cells: &[u8], place: usize) {
-    length(reply, name, cells.len(), MOST_CELLS, b" cells\n");
+    length(reply, name, cells.len(), replies::MOST_CELLS, b" cells\n");
     if replies::CELL <= reply.number {
         around(name, cells, place);
     }

@@ -3,13 +3,10 @@ use mathlib.Core.Path.{_≡_, refl}
 use mathlib.Core.Bool.{Bool, true, false}
 use mathlib.Core.List.{List, [], _∷_}
 use Prim.Native.Nat.{ℕ}
-use Rattle.replies.specs.declared.Profile.{Profile}
 use Rattle.listing.specs.Same.{same}
+use Rattle.replies.specs.Replies.{profileOf}
 use Rattle.text.specs.Text.{bytes, decimal, levelsText}
 use Rattle.text.specs.Line.{profileText, lineOf, numberIn, behindNumber, profileIn, isLineOf}
-
-abbrev of : ℕ → ℕ → ℕ → Profile
-of q m x = record { q = q; m = m; x = x }
 
 pub record Texts : Type 0 where
   pub ascii : bytes "0,9" ≡ 48 ∷ 44 ∷ 57 ∷ []
@@ -47,11 +44,11 @@ abbrev isLine : List ℕ → Bool
 isLine line = isLineOf line (profileIn line)
 
 pub record Lines : Type 0 where
-  pub line : lineOf (of 2 3 1) ≡ bytes "2 3 1\n"
-  pub read : profileIn (bytes "32 128 8\n") ≡ of 32 128 8
-  pub right : isLineOf (bytes "2 3 1\n") (of 2 3 1) ≡ true
+  pub line : lineOf (profileOf 2 3 1) ≡ bytes "2 3 1\n"
+  pub read : profileIn (bytes "32 128 8\n") ≡ profileOf 32 128 8
+  pub right : isLineOf (bytes "2 3 1\n") (profileOf 2 3 1) ≡ true
   pub three-digits-each : isLine (bytes "999 999 999\n") ≡ true
-  pub other-numbers : isLineOf (bytes "2 3 1\n") (of 2 3 2) ≡ false
+  pub other-numbers : isLineOf (bytes "2 3 1\n") (profileOf 2 3 2) ≡ false
   pub leading-zero : isLine (bytes "02 3 1\n") ≡ false
   pub four-digits : isLine (bytes "2 1000 1\n") ≡ false
   pub two-spaces : isLine (bytes "2  3 1\n") ≡ false

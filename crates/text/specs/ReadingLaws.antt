@@ -7,13 +7,14 @@ use lib.Dec.{ltb, leb}
 use lib.ListN.{drop}
 use borrow.Author.Tests.{leb-true, leb-false, lt-ltb, le-ltb}
 use Rattle.replies.specs.declared.Profile.{Profile}
+use Rattle.replies.specs.Replies.{profileOf}
 use Rattle.listing.specs.Same.{same}
 use Rattle.text.specs.Line.{lineOf, threeDigits, numberIn, behindNumber, profileIn, isLineOf}
 
 -- Three numbers, each read from the place behind the one before, are those of the line.
 pub numbers-read : (line : List ℕ) (second third : ℕ) {q m x : ℕ} → q ≡ numberIn 0 line → drop second line ≡ behindNumber line
     → m ≡ numberIn 0 (drop second line) → drop third line ≡ behindNumber (drop second line) → x ≡ numberIn 0 (drop third line)
-    → _≡_ {A = Profile} (record { q = q; m = m; x = x }) (profileIn line)
+    → _≡_ {A = Profile} (profileOf q m x) (profileIn line)
 unfolding profileIn
 numbers-read line second third q behind-q m behind-m x = rw (q, m, x, behind-m, behind-q)
 

@@ -7,14 +7,15 @@ use native.Mathlib.Numerals.{add-one}
 use native.Mathlib.Omega.{arith}
 use lib.ListN.{length, take, drop, set, take-append-drop}
 use lib.Seq.{take-suc-set, drop-set-lt}
+use Rattle.replies.specs.declared.Profile.{Profile}
 use Rattle.listing.specs.Listing.{wordOf}
 use Rattle.word_of_index.specs.Tasks.{wordBehind}
 
 -- Where no cells are left, nothing is written.
-pub nothing-left : (q x guard i : ℕ) {left : ℕ} (at : ℕ) (out : List ℕ) → left ≡ 0
-    → out ≡ take at out ++ (wordBehind q x guard left i ++ drop (at + left) out)
+pub nothing-left : (p : Profile) (guard i : ℕ) {left : ℕ} (at : ℕ) (out : List ℕ) → left ≡ 0
+    → out ≡ take at out ++ (wordBehind p guard left i ++ drop (at + left) out)
 unfolding wordBehind wordOf
-nothing-left q x guard i at out none = rw (none, add-zero) (sym (take-append-drop at out))
+nothing-left p guard i at out none = rw (none, add-zero) (sym (take-append-drop at out))
 
 -- A level written at a place, and the rest of a word behind it.
 pub cell-written : (at left : ℕ) {level : ℕ} (out : List ℕ) {cells rest last : List ℕ} → at + left ≤ length out → (left ≡ 0 → ⊥)

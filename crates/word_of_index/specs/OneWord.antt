@@ -13,8 +13,8 @@ use Rattle.replies.specs.declared.Profile.{Profile}
 use Rattle.replies.specs.declared.Reply.{Reply}
 use Rattle.replies.specs.Replies.{done, refused, refusedIf, profileRefusal, Outcome, writingCounted}
 use Rattle.replies.specs.ReplyLaws.{leaves, room-enough}
-use Rattle.code.specs.Code.{LegalWord, N, index, word}
 use Rattle.code.specs.Laws.{OneWord, one-word-of-index, index-below-N}
+use Rattle.profiles.specs.Profiles.{LegalFor, wordCount, indexFor, wordFor}
 use Rattle.tables.specs.Tables.{tableRefusal}
 use Rattle.word_of_index.specs.Spelling.{indexRefusal, spelling}
 
@@ -27,29 +27,29 @@ pub record InOrder (p : Profile) (table lent : List ℕ) : Type 0 where
 -- There is a word: it is the one with that many before it, and it is written from the front.
 pub record Given (p : Profile) (i : ℕ) (lent : List ℕ) (outcome : Outcome) : Type 0 where
   pub one : OneWord (p .q) (p .x) (p .m) i
-  pub written : outcome ≡ record { answer = record { reply = done; count = p .m }; lent = word (p .q) (p .x) (p .m) i ++ drop (p .m) lent }
+  pub written : outcome ≡ record { answer = record { reply = done; count = p .m }; lent = wordFor p i ++ drop (p .m) lent }
 
 -- There is none: 12, and nothing is written.
 pub record NoWord (p : Profile) (i : ℕ) (lent : List ℕ) (outcome : Outcome) : Type 0 where
-  pub none : (w : List ℕ) → LegalWord (p .q) (p .x) (p .m) w → index (p .q) (p .x) w ≡ i → ⊥
+  pub none : (w : List ℕ) → LegalFor p w → indexFor p w ≡ i → ⊥
   pub refusal : outcome ≡ record { answer = record { reply = refused 12 0; count = 0 }; lent = lent }
 
 module _ (p : Profile) (table : List ℕ) (i : Index) (lent : List ℕ) (order : InOrder p table lent) where
-  decided : refusedIf (leb (N (p .q) (p .x) (p .m)) (value (i .0))) 12 ≡ indexRefusal p table i lent
+  decided : refusedIf (leb (wordCount p) (value (i .0))) 12 ≡ indexRefusal p table i lent
   unfolding indexRefusal
   decided =
       let room = ap (λ (r : Reply). r .number) (room-enough (p .m) (length lent) (order .room)) in
       leaves _ _ _ _ refl (order .profile) (leaves _ _ _ _ refl (order .belongs) (leaves _ _ _ _ refl room refl))
 
   -- An index below N(m) has a word, and it is given.
-  pub word-given : value (i .0) < N (p .q) (p .x) (p .m) → Given p (value (i .0)) lent (spelling p table i lent)
+  pub word-given : value (i .0) < wordCount p → Given p (value (i .0)) lent (spelling p table i lent)
   unfolding spelling writingCounted
   word-given l =
       let one = one-word-of-index (p .q) (p .x) (p .m) (value (i .0)) l in
       record { one = one; written = rw (← decided, lt-leb _ _ l, one .found .cells) }
 
   -- An index at or above N(m) has none, and it is refused.
-  pub word-refused : N (p .q) (p .x) (p .m) ≤ value (i .0) → NoWord p (value (i .0)) lent (spelling p table i lent)
+  pub word-refused : wordCount p ≤ value (i .0) → NoWord p (value (i .0)) lent (spelling p table i lent)
   unfolding spelling writingCounted
   word-refused l = record {
     none = λ w legal e. let below = index-below-N (p .q) (p .x) (p .m) w legal in omega arith;

@@ -17,12 +17,13 @@ use Rattle.numbers.specs.declared.Index.{Index}
 use Rattle.replies.specs.declared.Reply.{Reply}
 use Rattle.replies.specs.declared.Profile.{Profile}
 use Rattle.replies.specs.Replies.{done}
-use Rattle.replies.specs.ReplyLaws.{test-failed, InRange, both-done, profile-in-range, has-room}
-use Rattle.code.specs.Code.{N, word}
+use Rattle.replies.specs.ReplyLaws.{test-failed, both-done, profile-in-range, has-room}
 use Rattle.code.specs.Laws.{one-word-of-index}
 use Rattle.tables.specs.Tables.{Belongs}
 use Rattle.tables.specs.TableLaws.{table-belongs}
 use Rattle.replies.specs.WritingLaws.{Comes, writing-refused, writing-done}
+use Rattle.replies.specs.Ranges.{InRange}
+use Rattle.profiles.specs.Profiles.{wordCount, wordFor, countFor}
 use Rattle.word_of_index.specs.Spelling.{indexRefusal, spelling}
 
 -- The order of two numbers says whether the first is at or above the second.
@@ -41,20 +42,20 @@ pub whole-index : (index : List ℕ) → length index ≡ 10 → numberAt 10 ind
 whole-index index ten = numberAt-all 10 index (omega arith)
 
 -- It is compared with row m of the table.
-pub index-compared : {q x m : ℕ} {table : List ℕ} (index : List ℕ) → Belongs q x m table → length index ≡ 10
+pub index-compared : {p : Profile} {m : ℕ} {table : List ℕ} (index : List ℕ) → Belongs p m table → length index ≡ 10
     → {found order : Order} → found ≡ orderOf (numberAt 10 index 0) (numberAt 10 table (10 * m)) → found ≡ order
-    → notLess order ≡ leb (N q x m) (value index)
-index-compared {q} {x} {m} {table} index b ten {found} {order} e f =
+    → notLess order ≡ leb (countFor p m) (value index)
+index-compared {p} {m} {table} index b ten {found} {order} e f =
     let whole = whole-index index ten in
     let right = b .rows m (le-refl m) in
-    not-less (value index) (N q x m) order (rw (← f) (rw (whole, right) at (order-says _ _ e)))
+    not-less (value index) (countFor p m) order (rw (← f) (rw (whole, right) at (order-says _ _ e)))
 
 -- What holds where nothing is refused.
 pub record Accepted (p : Profile) (table : List ℕ) (i : Index) (lent : List ℕ) : Type 0 where
   pub range : InRange p
-  pub belongs : Belongs (p .q) (p .x) (p .m) table
+  pub belongs : Belongs p (p .m) table
   pub room : p .m ≤ length lent
-  pub below : value (i .0) < N (p .q) (p .x) (p .m)
+  pub below : value (i .0) < wordCount p
 
 pub accepted : (p : Profile) (table : List ℕ) (i : Index) (lent : List ℕ) {reply : Reply} → reply ≡ indexRefusal p table i lent → reply .number ≡ 0
     → Accepted p table i lent
@@ -79,7 +80,7 @@ spelling-refused p table i lent e n = writing-refused _ _ _ _ lent e n
 -- Done writes the word from the front.
 pub spelling-done : (p : Profile) (table : List ℕ) (i : Index) (lent : List ℕ) {reply : Reply} → reply ≡ indexRefusal p table i lent
     → reply .number ≡ 0 → length (i .0) ≡ 10 → {after : List ℕ}
-    → after ≡ take 0 lent ++ (word (p .q) (p .x) (p .m) (numberAt 10 (i .0) 0) ++ drop (0 + p .m) lent)
+    → after ≡ take 0 lent ++ (wordFor p (numberAt 10 (i .0) 0) ++ drop (0 + p .m) lent)
     → Comes (spelling p table i lent) (record { reply = done; count = p .m }) after
 unfolding spelling
 spelling-done p table i lent e z ten a =

@@ -6,9 +6,10 @@ ghost use Prim.Native.Nat.{_+_, _-_, _≤_, _<_};
 ghost use lib.Dec.{leb};
 ghost use lib.ListN.{length, take, drop};
 ghost use Rattle.limbs.specs.Limbs.{value, numberAt, holding};
-ghost use Rattle.replies.specs.ReplyLaws.{InRange};
 ghost use Rattle.patterns.specs.Walk.{guardAfter};
-ghost use Rattle.code.specs.Code.{published, N, word};
+ghost use Rattle.code.specs.Code.{word};
+ghost use Rattle.replies.specs.Ranges.{InRange};
+ghost use Rattle.profiles.specs.Profiles.{patternsOf, wordCount, wordFor};
 ghost use Rattle.tables.specs.Tables.{Belongs};
 ghost use Rattle.word_of_index.specs.Spelling.{indexRefusal, spelling};
 ghost use Rattle.word_of_index.specs.Tasks.{wordBehind, weightBehind, lowCells, levelOf, leftBy, Task, SmallTask};
@@ -36,9 +37,9 @@ fn settle_guarded(
     guard: usize,
     left: usize,
 ) -> u64
-    requires { ⌜ Task (p .q) (p .x) guard left (now table) n (now rest) × (0 < left) × (1 ≤ guard) ⌝ }
-    ensures { λ r. ⌜ r ≡ levelOf (p .q) (p .x) guard left (numberAt n (now (rest .entry)) 0) ⌝ }
-    ensures { λ _. ⌜ now (rest .exit) ≡ holding n (leftBy (p .q) (p .x) guard left (numberAt n (now (rest .entry)) 0)) (now (rest .entry)) ⌝ }
+    requires { ⌜ Task p guard left (now table) n (now rest) × (0 < left) × (1 ≤ guard) ⌝ }
+    ensures { λ r. ⌜ r ≡ levelOf p guard left (numberAt n (now (rest .entry)) 0) ⌝ }
+    ensures { λ _. ⌜ now (rest .exit) ≡ holding n (leftBy p guard left (numberAt n (now (rest .entry)) 0)) (now (rest .entry)) ⌝ }
 {
     let top = (p.q - 1) as u64;
     let k = low_cells(guard, left - 1);
@@ -63,9 +64,9 @@ fn settle_level(
     guard: usize,
     left: usize,
 ) -> u64
-    requires { ⌜ Task (p .q) (p .x) guard left (now table) n (now rest) × (0 < left) ⌝ }
-    ensures { λ r. ⌜ r ≡ levelOf (p .q) (p .x) guard left (numberAt n (now (rest .entry)) 0) ⌝ }
-    ensures { λ _. ⌜ now (rest .exit) ≡ holding n (leftBy (p .q) (p .x) guard left (numberAt n (now (rest .entry)) 0)) (now (rest .entry)) ⌝ }
+    requires { ⌜ Task p guard left (now table) n (now rest) × (0 < left) ⌝ }
+    ensures { λ r. ⌜ r ≡ levelOf p guard left (numberAt n (now (rest .entry)) 0) ⌝ }
+    ensures { λ _. ⌜ now (rest .exit) ≡ holding n (leftBy p guard left (numberAt n (now (rest .entry)) 0)) (now (rest .entry)) ⌝ }
 {
     if 1 < guard {
         return settle_guarded(p, table, rest, n, guard, left);
@@ -76,7 +77,7 @@ fn settle_level(
 // The guard behind a settled level: whole behind a top, else one less.
 fn guard_behind(p: Profile, guard: usize, level: u64) -> usize
     requires { ⌜ (2 ≤ p .q) × (p .x ≤ 8) × (level ≤ p .q - 1) ⌝ }
-    ensures { λ r. ⌜ r ≡ guardAfter (published (p .q) (p .x)) guard level ⌝ }
+    ensures { λ r. ⌜ r ≡ guardAfter (patternsOf p) guard level ⌝ }
 {
     if level == (p.q - 1) as u64 {
         return p.x + 1;
@@ -89,8 +90,8 @@ fn guard_behind(p: Profile, guard: usize, level: u64) -> usize
 
 // The weight of the leftmost of `left` cells, where the counts fit one limb.
 fn small_weight(p: Profile, table: &[u64], guard: usize, left: usize) -> u64
-    requires { ⌜ SmallTask (p .q) (p .x) guard left (now table) 0 × (0 < left) ⌝ }
-    ensures { λ r. ⌜ r ≡ weightBehind (p .q) (p .x) guard (left - 1) ⌝ }
+    requires { ⌜ SmallTask p guard left (now table) 0 × (0 < left) ⌝ }
+    ensures { λ r. ⌜ r ≡ weightBehind p guard (left - 1) ⌝ }
 {
     if 1 < guard {
         let k = low_cells(guard, left - 1);
@@ -110,8 +111,8 @@ fn settle_small(
     guard: usize,
     left: usize,
 )
-    requires { ⌜ SmallTask (p .q) (p .x) guard left (now table) rest × (at + left ≤ length (now out)) ⌝ }
-    ensures { λ _. ⌜ now (out .exit) ≡ take at (now (out .entry)) ++ (wordBehind (p .q) (p .x) guard left rest ++ drop (at + left) (now (out .entry))) ⌝ }
+    requires { ⌜ SmallTask p guard left (now table) rest × (at + left ≤ length (now out)) ⌝ }
+    ensures { λ _. ⌜ now (out .exit) ≡ take at (now (out .entry)) ++ (wordBehind p guard left rest ++ drop (at + left) (now (out .entry))) ⌝ }
 {
     if left == 0 {
         return;
@@ -143,8 +144,8 @@ fn settle_cells(
     guard: usize,
     left: usize,
 )
-    requires { ⌜ Task (p .q) (p .x) guard left (now table) n (now rest) × (at + left ≤ length (now out)) ⌝ }
-    ensures { λ _. ⌜ now (out .exit) ≡ take at (now (out .entry)) ++ (wordBehind (p .q) (p .x) guard left (numberAt n (now (rest .entry)) 0) ++ drop (at + left) (now (out .entry))) ⌝ }
+    requires { ⌜ Task p guard left (now table) n (now rest) × (at + left ≤ length (now out)) ⌝ }
+    ensures { λ _. ⌜ now (out .exit) ≡ take at (now (out .entry)) ++ (wordBehind p guard left (numberAt n (now (rest .entry)) 0) ++ drop (at + left) (now (out .entry))) ⌝ }
 {
     if left == 0 {
         return;
@@ -171,16 +172,16 @@ fn settle_cells(
 // Writes the word of the index in the first ten limbs of `rest` to the m cells of `out` from `at` on.
 // `rest` is used up.
 pub fn spell(p: Profile, table: &[u64], rest: &mut [u64], out: &mut [u8], at: usize)
-    requires { ⌜ InRange p × Belongs (p .q) (p .x) (p .m) (now table) × (10 ≤ length (now rest)) × (at + p .m ≤ length (now out)) × (numberAt 10 (now rest) 0 < N (p .q) (p .x) (p .m)) ⌝ }
-    ensures { λ _. ⌜ now (out .exit) ≡ take at (now (out .entry)) ++ (word (p .q) (p .x) (p .m) (numberAt 10 (now (rest .entry)) 0) ++ drop (at + p .m) (now (out .entry))) ⌝ }
+    requires { ⌜ InRange p × Belongs p (p .m) (now table) × (10 ≤ length (now rest)) × (at + p .m ≤ length (now out)) × (numberAt 10 (now rest) 0 < wordCount p) ⌝ }
+    ensures { λ _. ⌜ now (out .exit) ≡ take at (now (out .entry)) ++ (wordFor p (numberAt 10 (now (rest .entry)) 0) ++ drop (at + p .m) (now (out .entry))) ⌝ }
 {
     settle_cells(p, table, rest, 10, out, at, 0, p.m);
 }
 
 // The index is at or above N(m), which is row m of the table.
 fn index_above(p: Profile, table: &[u64], index: &[u64]) -> bool
-    requires { ⌜ Belongs (p .q) (p .x) (p .m) (now table) × (length (now index) ≡ 10) ⌝ }
-    ensures { λ r. ⌜ r ≡ leb (N (p .q) (p .x) (p .m)) (value (now (index .entry))) ⌝ }
+    requires { ⌜ Belongs p (p .m) (now table) × (length (now index) ≡ 10) ⌝ }
+    ensures { λ r. ⌜ r ≡ leb (wordCount p) (value (now (index .entry))) ⌝ }
 {
     match limbs::compare(index, 10, table, 10 * p.m) {
         Order::Less => false,

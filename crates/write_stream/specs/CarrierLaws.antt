@@ -9,6 +9,8 @@ use lib.ListN.{length, take, drop, length-map}
 use lib.Seq.{take-nil, take-take, drop-drop}
 use borrow.Author.Tests.{eqb-true, eq-eqb}
 use Rattle.limbs.specs.Limbs.{base}
+use Rattle.messages.specs.Carrying.{messageRefusal}
+use Rattle.messages.specs.LengthLaws.{words-fit, length-below}
 use Rattle.numbers.specs.Step.{indexOf}
 use Rattle.replies.specs.declared.Profile.{Profile}
 use Rattle.patterns.specs.Stream.{filled, hasLength, streamOf}
@@ -16,12 +18,10 @@ use Rattle.patterns.specs.StreamLaws.{stream-length}
 use Rattle.listing.specs.Every.{every, every-implies}
 use Rattle.code.specs.Laws.{one-word-of-index}
 use Rattle.code.specs.MessageLaws.{length-positive, carrying-before-tops}
-use Rattle.catalogue.specs.LengthLaws.{wordCount, lengthOf, words-fit, length-below}
-use Rattle.catalogue.specs.Rating.{messageRefusal}
+use Rattle.profiles.specs.Profiles.{patternsOf, wordCount, lengthOf, streamLength}
 use Rattle.bits.specs.Bits.{numberOf, bitsOfBytes, messagesIn}
 use Rattle.bits.specs.BitLaws.{drop-bits, numberOf-take-below, bitsOfBytes-bits}
 use Rattle.bits.specs.RoundTrip.{length-messagesIn}
-use Rattle.streams.specs.Streams.{patternsOf, streamLength}
 use Rattle.streams.specs.JoinedLaws.{filled-by-length}
 use Rattle.write_stream.specs.Writing.{carrier}
 use Rattle.write_stream.specs.Steps.{carriers, Ready}

@@ -4,21 +4,21 @@ use mathlib.Core.List.{List, [], _∷_}
 use Prim.Native.Nat.{ℕ}
 use lib.ListN.{replicate}
 use Rattle.limbs.specs.Limbs.{value, limbsOf, numberAt}
+use Rattle.messages.specs.Carrying.{messageRefusal, carryingRefusal}
 use Rattle.replies.specs.declared.Reply.{Reply}
-use Rattle.replies.specs.Replies.{done, refused, refusedAtFirst, orElse, outsideRefusal, profileRefusal, roomRefusal, Outcome, writingCounted}
+use Rattle.replies.specs.Replies.{done, refused, refusedAtFirst, orElse, outsideRefusal, profileRefusal, roomRefusal, Outcome, writingCounted, profileOf}
 use Rattle.patterns.specs.Pattern.{patternFree}
 use Rattle.patterns.specs.Stream.{bridge, streamOf}
 use Rattle.listing.specs.Listing.{allWords, listed, countOf, wordOf}
 use Rattle.code.specs.Code.{legal, N, word}
 use Rattle.code.specs.Messages.{messageLength}
-use Rattle.tables.specs.Tables.{tableRefusal, tableOf}
-use Rattle.catalogue.specs.Rating.{messageRefusal, carryingRefusal}
+use Rattle.tables.specs.Tables.{tableRefusal, tableOf, rowsBelow}
 use Rattle.bits.specs.Bits.{bitsOf, numberOf, bitsOfBytes, messagesIn}
 use Rattle.write_stream.specs.Writing.{countRefusal, behindRefusal, writeRefusal, streamWritten, writingStream}
 
 -- Bits written at reach 1 to so many cells of 9.
 abbrev asked : ℕ → ℕ → List ℕ → ℕ → ℕ → Outcome
-asked q m bytes bits cells = writingStream (record { q = q; m = m; x = 1 }) (tableOf q 1 m) bytes bits (replicate cells 9)
+asked q m bytes bits cells = writingStream (profileOf q m 1) (tableOf (profileOf q m 1)) bytes bits (replicate cells 9)
 
 abbrev answered : Reply → ℕ → List ℕ → Outcome
 answered reply count lent = record { answer = record { reply = reply; count = count }; lent = lent }
@@ -41,7 +41,7 @@ pub record Outcomes : Type 0 where
 
 pub outcomes : Outcomes
 unfolding writingStream writeRefusal streamWritten countRefusal behindRefusal writingCounted orElse refusedAtFirst profileRefusal outsideRefusal
-    roomRefusal carryingRefusal messageRefusal tableRefusal tableOf messageLength word wordOf N legal countOf listed allWords patternFree
+    roomRefusal carryingRefusal messageRefusal tableRefusal rowsBelow messageLength word wordOf N legal countOf listed allWords patternFree
     streamOf bridge bitsOf numberOf bitsOfBytes messagesIn value limbsOf numberAt
 outcomes = record {
   seven = refl;

@@ -9,7 +9,7 @@ use Rattle.limbs.specs.HoldingLaws.{numberAt-all, holding-all}
 use Rattle.limbs.specs.ValueLaws.{length-limbsOf, value-limbsOf-below}
 use Rattle.numbers.specs.Step.{firstIndex, indexOf}
 use Rattle.replies.specs.declared.Profile.{Profile}
-use Rattle.catalogue.specs.LengthLaws.{wordCount}
+use Rattle.profiles.specs.Profiles.{wordCount}
 use Rattle.write_stream.specs.Steps.{messageAt, Ready}
 use Rattle.write_stream.specs.CarrierLaws.{number-below, carries, index-below}
 

@@ -12,9 +12,9 @@ use Rattle.patterns.specs.Stream.{bridge, filled, streamOf, joined}
 use Rattle.patterns.specs.JoinLaws.{joined-empty-left}
 use Rattle.patterns.specs.StreamLaws.{stream-joined}
 use Rattle.listing.specs.Every.{every, every-append}
+use Rattle.profiles.specs.Profiles.{patternsOf, stride, streamLength}
 use Rattle.bits.specs.Bits.{bitsOfBytes, messagesIn}
 use Rattle.streams.specs.FitLaws.{length-and-bridge}
-use Rattle.streams.specs.Streams.{patternsOf, stride, streamLength}
 use Rattle.write_stream.specs.Writing.{carrier}
 use Rattle.write_stream.specs.Steps.{messageAt, carriers, withStream, Fitting}
 use Rattle.write_stream.specs.CarrierLaws.{Carries, number-below, messages-more, length-carrier, carriers-filled, length-written}

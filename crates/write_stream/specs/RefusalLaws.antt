@@ -14,10 +14,9 @@ use Rattle.replies.specs.declared.Reply.{Reply}
 use Rattle.replies.specs.declared.Profile.{Profile}
 use Rattle.replies.specs.Replies.{done, refused, refusedIf, roomRefusal}
 use Rattle.replies.specs.ReplyLaws.{both-done, test-failed, has-room, first-refused, none-refused}
-use Rattle.catalogue.specs.LengthLaws.{lengthOf}
+use Rattle.profiles.specs.Profiles.{lengthOf, streamLength}
 use Rattle.bits.specs.Bits.{bitsOf, bitsOfBytes, bytesFor}
 use Rattle.bits.specs.PieceLaws.{piece-of-bytes}
-use Rattle.streams.specs.Streams.{streamLength}
 use Rattle.streams.specs.FitLaws.{neither}
 use Rattle.write_stream.specs.Writing.{countRefusal, behindRefusal, messagesHeld}
 use Rattle.write_stream.specs.Steps.{bitsRefusal, Fitting}

@@ -3,13 +3,13 @@ use mathlib.Core.List.{List, _++_, map}
 use mathlib.Core.Path.{_≡_}
 use Prim.Native.Nat.{ℕ, _*_, _≤_}
 use lib.ListN.{take, drop}
+use Rattle.messages.specs.Carrying.{CarriesMessages}
 use Rattle.replies.specs.declared.Reply.{Reply}
 use Rattle.replies.specs.declared.Profile.{Profile}
 use Rattle.replies.specs.Replies.{orElse, roomRefusal}
 use Rattle.patterns.specs.Stream.{streamOf}
-use Rattle.catalogue.specs.LengthLaws.{lengthOf, CarriesMessages}
+use Rattle.profiles.specs.Profiles.{patternsOf, lengthOf, streamLength}
 use Rattle.bits.specs.Bits.{bitsOfBytes, messagesIn, numberOf}
-use Rattle.streams.specs.Streams.{patternsOf, streamLength}
 use Rattle.write_stream.specs.Writing.{countRefusal, behindRefusal, messagesHeld, carrier}
 
 -- 7, 8 and 9, for a lent output of so many cells.

@@ -4,21 +4,20 @@ use mathlib.Core.List.{List, map}
 use Prim.Native.Nat.{ℕ, _*_, _/_, _%_}
 use lib.Dec.{ltb, leb, eqb}
 use lib.ListN.{length, take, getD}
+use Rattle.messages.specs.Carrying.{carryingRefusal}
 use Rattle.replies.specs.declared.Reply.{Reply}
 use Rattle.replies.specs.declared.Profile.{Profile}
 use Rattle.replies.specs.Replies.{refusedIf, refusedAtFirst, orElse, roomRefusal, Outcome, writing}
+use Rattle.replies.specs.Ranges.{mostWords}
 use Rattle.numbers.specs.Step.{indexOf}
 use Rattle.patterns.specs.Stream.{streamOf}
-use Rattle.code.specs.Code.{word}
-use Rattle.catalogue.specs.LengthLaws.{lengthOf}
-use Rattle.catalogue.specs.Rating.{carryingRefusal}
+use Rattle.profiles.specs.Profiles.{patternsOf, lengthOf, streamLength, wordFor}
 use Rattle.bits.specs.Bits.{bitsOfBytes, bytesFor, messagesIn}
-use Rattle.streams.specs.Streams.{patternsOf, streamLength}
 
 -- 7: a bit count that is no multiple of s, that is over 256 words, or whose bytes are not all there.
 unfoldable pub countRefusal : Profile → List ℕ → ℕ → Reply
 countRefusal p bytes bits =
-    refusedIf (not (eqb (bits % lengthOf p) 0) || (ltb (256 * lengthOf p) bits || ltb (length bytes) (bytesFor bits))) 7
+    refusedIf (not (eqb (bits % lengthOf p) 0) || (ltb (mostWords * lengthOf p) bits || ltb (length bytes) (bytesFor bits))) 7
 
 -- 8: a bit after the last message bit, in the same byte, is 1, at its bit place.
 unfoldable pub behindRefusal : List ℕ → ℕ → Reply
@@ -39,7 +38,7 @@ writeRefusal p table bytes bits lent =
 
 -- The word that carries a message: that of the message's index.
 abbrev pub carrier : Profile → ℕ → List ℕ
-carrier p message = word (p .q) (p .x) (p .m) (indexOf message)
+carrier p message = wordFor p (indexOf message)
 
 -- The stream of the words that carry the messages, with the published bridges.
 unfoldable pub streamWritten : Profile → List ℕ → ℕ → List ℕ

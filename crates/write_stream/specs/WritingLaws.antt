@@ -5,15 +5,15 @@ use Prim.Native.Nat.{ℕ, _*_, _/_, _%_}
 use native.Mathlib.Nat.{div-add-mod'}
 use native.Mathlib.Omega.{arith}
 use lib.ListN.{length}
+use Rattle.messages.specs.Carrying.{carryingRefusal}
 use Rattle.replies.specs.declared.Reply.{Reply}
 use Rattle.replies.specs.declared.Profile.{Profile}
 use Rattle.replies.specs.Replies.{done}
 use Rattle.replies.specs.ReplyLaws.{decides, leaves}
 use Rattle.replies.specs.WritingLaws.{Comes, writing-refused, writing-done}
 use Rattle.patterns.specs.Stream.{streamOf}
-use Rattle.catalogue.specs.Rating.{carryingRefusal}
+use Rattle.profiles.specs.Profiles.{patternsOf, streamLength}
 use Rattle.bits.specs.Bits.{bitsOfBytes}
-use Rattle.streams.specs.Streams.{patternsOf, streamLength}
 use Rattle.write_stream.specs.Writing.{writeRefusal, streamWritten, writingStream}
 use Rattle.write_stream.specs.Steps.{bitsRefusal, carriers, withStream, Ready}
 use Rattle.write_stream.specs.CarrierLaws.{messages-within, carries, length-written}

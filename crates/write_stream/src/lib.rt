@@ -5,10 +5,9 @@ ghost use mathlib.Core.Path.{_≡_};
 ghost use Prim.Native.Nat.{ℕ, _+_, _*_, _≤_, _<_};
 ghost use lib.ListN.{length, take, drop};
 ghost use Rattle.replies.specs.declared.Profile.{Profile};
-ghost use Rattle.replies.specs.ReplyLaws.{InRange};
-ghost use Rattle.catalogue.specs.LengthLaws.{lengthOf};
+ghost use Rattle.replies.specs.Ranges.{InRange};
+ghost use Rattle.profiles.specs.Profiles.{lengthOf, streamLength};
 ghost use Rattle.bits.specs.Bits.{bytesFor};
-ghost use Rattle.streams.specs.Streams.{streamLength};
 ghost use Rattle.write_stream.specs.Writing.{countRefusal, behindRefusal, carrier, writingStream};
 ghost use Rattle.write_stream.specs.Steps.{bitsRefusal, messageAt, withStream, Ready, Fitting};
 use numbers::Message;
@@ -17,16 +16,13 @@ use replies::Profile;
 use replies::Reply;
 use replies::Written;
 
-// The most words of a stream.
-const MOST_WORDS: usize = 256;
-
 // Number 7: a bit count that is no multiple of s, that is over 256 words, or whose bytes are not all
 // there.
 fn refused_count(s: usize, bytes: &[u8], bits: usize) -> Reply
     requires { ⌜ (0 < s) × (s < 640) ⌝ }
     ensures { λ r. ⌜ ((p : Profile) → s ≡ lengthOf p → r ≡ countRefusal p (now (bytes .entry)) bits) ⌝ }
 {
-    if MOST_WORDS * s < bits {
+    if replies::MOST_WORDS * s < bits {
         return replies::refused_at(replies::INPUT_LENGTH, 0);
     }
     replies::refused_if(
@@ -129,14 +125,14 @@ pub fn write(p: Profile, table: &[u64], bytes: &[u8], bits: usize, out: &mut [u8
     ensures { λ r. ⌜ r ≡ writingStream p (now (table .entry)) (now (bytes .entry)) bits (now (out .entry)) .answer ⌝ }
     ensures { λ _. ⌜ now (out .exit) ≡ writingStream p (now (table .entry)) (now (bytes .entry)) bits (now (out .entry)) .lent ⌝ }
 {
-    let carrying = catalogue::refused_carrying(p, table);
+    let carrying = messages::refused_carrying(p, table);
     if carrying.number != DONE {
         return Written {
             reply: carrying,
             count: 0,
         };
     }
-    let s = catalogue::message_length(p, table);
+    let s = messages::message_length(p, table);
     let refusal = refused_bits(p, s, bytes, bits, out.len());
     if refusal.number != DONE {
         return Written {

@@ -2,7 +2,7 @@
 use borrow.Author.Needs.{needs}
 use Rattle.replies.proofs.done.Reads as done-reads
 use Rattle.catalogue.specs.RatingLaws.{Rates, rate-not-refused, rate-refused, rate-given}
-use Rattle.catalogue.proofs.message_length.Reads as message-length-reads
+use Rattle.messages.proofs.message_length.Reads as message-length-reads
 use Rattle.catalogue.proofs.refused_rate.Reads as refused-rate-reads
 use Rattle.catalogue.proofs.rate_of_words.Lts as lts
 use Rattle.catalogue.proofs.rate_of_words.Reads as reads

@@ -4,7 +4,8 @@ use Prim.Native.Nat.{ℕ}
 use native.Mathlib.Omega.{arith}
 use lib.ListN.{drop}
 use borrow.Author.Needs.{needs}
-use Rattle.replies.specs.ReplyLaws.{InRange, profile-in-range}
+use Rattle.replies.specs.ReplyLaws.{profile-in-range}
+use Rattle.replies.specs.Ranges.{InRange}
 use Rattle.tables.specs.Tables.{Belongs}
 use Rattle.code_as_text.specs.Printed.{answerText}
 use Rattle.code_as_text.specs.CodeLaws.{built-table, words-limb}
@@ -38,7 +39,7 @@ range c = profile-in-range _ (c .before .before .refused-profile .ensures) (c .i
 
 -- .. and the table that is built belongs to it.
 belongs : (c : tie.After-build)
-    → let p = c .before .before .before .before .before .before .args .p in Belongs (p .q) (p .x) (p .m) (c .build .last .1 .0)
+    → let p = c .before .before .before .before .before .before .args .p in Belongs p (p .m) (c .build .last .1 .0)
 belongs c =
     let inside = range (c .before .before) in
     let most = inside .length .most in

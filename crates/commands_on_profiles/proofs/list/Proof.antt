@@ -5,7 +5,8 @@ use native.Mathlib.Omega.{arith}
 use borrow.Author.Needs.{needs}
 use borrow.Author.Tests.{lt-ltb}
 use Rattle.replies.specs.declared.Profile.{Profile}
-use Rattle.replies.specs.ReplyLaws.{InRange, profile-in-range}
+use Rattle.replies.specs.ReplyLaws.{profile-in-range}
+use Rattle.replies.specs.Ranges.{InRange}
 use Rattle.text.specs.Text.{bytes}
 use Rattle.text.specs.Line.{threeDigits}
 use Rattle.text.specs.LineLaws.{profile-short, line-short}

@@ -16,21 +16,21 @@ array-borrow-prefix-counts : tie.Need-array-borrow-prefix-counts
 array-borrow-prefix-counts c = search needs
 
 slice-aggregate-open-stretch : tie.Need-slice-aggregate-open-stretch
-slice-aggregate-open-stretch c = sym (counts-length (c .before .before .before .before .pre))
+slice-aggregate-open-stretch c = sym (counts-length (c .before .before .before .before .before .pre))
 
 open-stretch-requires : tie.Need-open-stretch-requires
-open-stretch-requires c κs = (omega arith, countable (c .before .before .before .before .pre))
+open-stretch-requires c κs = (omega arith, countable (c .before .before .before .before .before .pre))
 
 -- The counts come back as many as they were lent, ..
-kept : (c : tie.After-open-stretch) → length (c .open-stretch .last .1 .1 .1 .1 .0) ≡ length (c .before .before .before .before .before .args .cells .now)
-kept c = c .open-stretch .kept .1 .1 .1 .1 .0 ∙ counts-length (c .before .before .before .before .before .pre)
+kept : (c : tie.After-open-stretch) → length (c .open-stretch .last .1 .1 .1 .1 .0) ≡ length (c .before .before .before .before .before .before .args .cells .now)
+kept c = c .open-stretch .kept .1 .1 .1 .1 .0 ∙ counts-length (c .before .before .before .before .before .before .pre)
 
 array-share-prefix-counts : tie.Need-array-share-prefix-counts
 array-share-prefix-counts c = rw length-append (omega (arith, kept (c .before)))
 
 -- .. and are lent again as they are.
 lent : (c : tie.After-open-stretch)
-    → let m = length (c .before .before .before .before .before .args .cells .now) in
+    → let m = length (c .before .before .before .before .before .before .args .cells .now) in
     let counts = c .open-stretch .last .1 .1 .1 .1 .0 in
     take m (counts ++ drop m (zeros 128)) ≡ counts
 lent c = take-at _ _ _ (kept c)
@@ -44,7 +44,7 @@ span-requires c κs = search needs
 combine-requires : tie.Need-combine-requires
 combine-requires c κs =
     let d = c .before .before .before .before in
-    rw (lent d) (combinable (d .before .before .before .before .before .pre) (kept d) (d .open-stretch .ensures) (c .before .span .ensures))
+    rw (lent d) (combinable (d .before .before .before .before .before .before .pre) (kept d) (d .open-stretch .ensures) (c .before .span .ensures))
 
 same-length : tie.Need-same-length
 same-length c = search needs
@@ -53,7 +53,7 @@ returns : tie.Need-returns
 returns c =
     let e = c .before .before in
     let d = e .before .before .before .before .before in
-    let index = combined-index (d .before .before .before .before .before .pre) (kept d) (d .open-stretch .ensures) in
+    let index = combined-index (d .before .before .before .before .before .before .pre) (kept d) (d .open-stretch .ensures) in
     rw (e .combine .ensures, lent d, index)
 
 pub put-index-spec : {M : Type 1} → statement M

@@ -7,7 +7,8 @@ use Rattle.replies.specs.declared.Reply.{Reply}
 use Rattle.replies.specs.Replies.{orElse, profileRefusal, roomRefusal}
 use Rattle.replies.specs.ReplyLaws.{decides, leaves, profile-in-range}
 use Rattle.patterns.specs.Stream.{joined}
-use Rattle.streams.specs.Streams.{patternsOf, bothFitRefusal}
+use Rattle.profiles.specs.Profiles.{patternsOf}
+use Rattle.streams.specs.Streams.{bothFitRefusal}
 use Rattle.join_streams.specs.Joining.{joinRefusal}
 use Rattle.join_streams.specs.JoinedLaws.{joined-count}
 use Rattle.join_streams.specs.JoiningLaws.{Tested, both-tested, count-few, place-few}

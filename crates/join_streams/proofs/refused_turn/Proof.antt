@@ -4,7 +4,8 @@ use lib.ListN.{length}
 use borrow.Author.Needs.{needs}
 use Rattle.replies.specs.declared.Reply.{Reply}
 use Rattle.replies.specs.Replies.{orElse, profileRefusal}
-use Rattle.replies.specs.ReplyLaws.{InRange, decides, leaves, profile-in-range}
+use Rattle.replies.specs.ReplyLaws.{decides, leaves, profile-in-range}
+use Rattle.replies.specs.Ranges.{InRange}
 use Rattle.streams.specs.Streams.{fitRefusal}
 use Rattle.streams.specs.FitLaws.{not-refused-fits}
 use Rattle.join_streams.specs.Joining.{turnRefusal}

@@ -5,7 +5,7 @@ use native.Mathlib.Omega.{arith}
 use lib.ListN.{length}
 use borrow.Author.Needs.{needs}
 use Rattle.patterns.specs.Stream.{joined}
-use Rattle.streams.specs.Streams.{patternsOf}
+use Rattle.profiles.specs.Profiles.{patternsOf}
 use Rattle.join_streams.specs.JoinedLaws.{joined-count, bridged, without-bridge, with-bridge}
 use Rattle.join_streams.proofs.write_joined.Statement.{statement}
 use Rattle.join_streams.proofs.write_joined.Tie as tie

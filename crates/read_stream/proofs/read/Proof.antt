@@ -3,8 +3,8 @@ use mathlib.Core.Path.{ap₂}
 use Prim.Native.Nat.{ℕ, _*_}
 use native.Mathlib.Omega.{arith}
 use borrow.Author.Needs.{needs}
-use Rattle.catalogue.specs.LengthLaws.{CarriesMessages}
-use Rattle.catalogue.specs.RatingLaws.{carries-messages}
+use Rattle.messages.specs.Carrying.{CarriesMessages}
+use Rattle.messages.specs.CarryingLaws.{carries-messages}
 use Rattle.streams.specs.FitLaws.{few-cells}
 use Rattle.read_stream.specs.ReadingLaws.{bits-few, Accepted, accepted, reading-unready, reading-refused, reading-done}
 use Rattle.read_stream.proofs.read.Statement.{statement}

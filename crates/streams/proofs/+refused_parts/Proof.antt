@@ -6,7 +6,7 @@ use lib.ListN.{length, length-drop}
 use borrow.Author.Needs.{needs}
 use borrow.Fn.Kinds.{In}
 use borrow.Fn.PlainCycle.{Measures, is, falls, and}
-use Rattle.streams.specs.Streams.{stride}
+use Rattle.profiles.specs.Profiles.{stride}
 use Rattle.streams.specs.FitLaws.{Rest, rest-of}
 use Rattle.streams.specs.PartLaws.{handed-on, throughout-none, throughout-last, throughout-step, rest-exact, part-place}
 use Rattle.streams.proofs.refused_parts.Reads as refused-parts

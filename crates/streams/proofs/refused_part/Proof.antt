@@ -6,7 +6,8 @@ use lib.ListN.{length}
 use lib.Seq.{length-take-le}
 use borrow.Author.Needs.{needs}
 use Rattle.replies.specs.ReplyLaws.{decides, leaves}
-use Rattle.streams.specs.Streams.{stride, partRefusal}
+use Rattle.profiles.specs.Profiles.{stride}
+use Rattle.streams.specs.Streams.{partRefusal}
 use Rattle.streams.specs.FitLaws.{rest-of}
 use Rattle.streams.specs.BridgeLaws.{word-alone}
 use Rattle.streams.proofs.refused_part.Statement.{statement}

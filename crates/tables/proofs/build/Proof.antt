@@ -18,15 +18,15 @@ unfolding building
 returns c =
     let r = c .before .before in
     let s = r .before .before .before .args in
-    table-refused (s .p .q) (s .p .x) (s .p .m) (s .out .now) (r .before .refused-profile .ensures) (r .refused .ensures) (c .if1 .taken)
+    table-refused (s .p) (s .out .now) (r .before .refused-profile .ensures) (r .refused .ensures) (c .if1 .taken)
 
 build-requires : tie.Need-build-requires
 build-requires c κs =
     let r = c .before .before .before in
     let s = r .before .before .before .args in
     let taken = c .before .if1 .left in
-    let handed = handed-done (s .p .q) (s .p .x) (s .p .m) (s .out .now) (r .before .refused-profile .ensures) (r .refused .ensures) taken in
-    let room = room-found (s .p .q) (s .p .x) (s .p .m) (s .out .now) (r .before .refused-profile .ensures) (r .refused .ensures) taken in
+    let handed = handed-done (s .p) (s .out .now) (r .before .refused-profile .ensures) (r .refused .ensures) taken in
+    let room = room-found (s .p) (s .out .now) (r .before .refused-profile .ensures) (r .refused .ensures) taken in
     (profile-in-range _ (r .before .refused-profile .ensures) handed, room)
 
 add-t5 : tie.Need-add-t5
@@ -34,14 +34,14 @@ add-t5 c =
     let r = c .before .before .before .before .before .before .before in
     let s = r .before .before .before .args in
     let taken = c .before .before .before .before .before .if1 .left in
-    omega (arith, room-found (s .p .q) (s .p .x) (s .p .m) (s .out .now) (r .before .refused-profile .ensures) (r .refused .ensures) taken)
+    omega (arith, room-found (s .p) (s .out .now) (r .before .refused-profile .ensures) (r .refused .ensures) taken)
 
 mul-t10 : tie.Need-mul-t10
 mul-t10 c =
     let r = c .before .before .before .before .before .before .before in
     let s = r .before .before .before .args in
     let taken = c .before .before .before .before .before .if1 .left in
-    omega (arith, room-found (s .p .q) (s .p .x) (s .p .m) (s .out .now) (r .before .refused-profile .ensures) (r .refused .ensures) taken)
+    omega (arith, room-found (s .p) (s .out .now) (r .before .refused-profile .ensures) (r .refused .ensures) taken)
 
 same-length : tie.Need-same-length
 same-length c = search needs
@@ -52,7 +52,7 @@ returns-2 c =
     let r = c .before .before .before .before .before .before .before in
     let s = r .before .before .before .args in
     let taken = c .before .before .before .before .before .if1 .left in
-    table-written (s .p .q) (s .p .x) (s .p .m) (s .out .now) (r .before .refused-profile .ensures) (r .refused .ensures) taken
+    table-written (s .p) (s .out .now) (r .before .refused-profile .ensures) (r .refused .ensures) taken
     (c .before .before .before .build .ensures)
 
 pub build-spec : {M : Type 1} → statement M

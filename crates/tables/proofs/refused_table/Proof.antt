@@ -13,7 +13,7 @@ use Rattle.tables.proofs.refused_table.Statement.{statement}
 use Rattle.tables.proofs.refused_table.Tie as tie
 
 abbrev Inv-loop : tie.InvT-loop
-Inv-loop p table fresh₀ stage₀ fresh stage = Counted p stage fresh × Belongs (p .q) (p .x) (stage .i) table
+Inv-loop p table fresh₀ stage₀ fresh stage = Counted p stage fresh × Belongs p (stage .i) table
 
 abbrev μ-loop : tie.MeasureT-loop
 μ-loop p table fresh₀ stage₀ fresh stage = p .m - stage .i

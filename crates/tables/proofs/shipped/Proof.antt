@@ -2,7 +2,7 @@
 use native.Mathlib.Omega.{arith}
 use borrow.Author.Needs.{needs}
 use Rattle.replies.specs.ReplyLaws.{in-range}
-use Rattle.tables.specs.Tables.{handingOut}
+use Rattle.tables.specs.Tables.{handingOut, shippedProfile}
 use Rattle.tables.specs.WritingLaws.{table-refused, handed-done, room-found, table-written}
 use Rattle.tables.proofs.shipped.Statement.{statement}
 use Rattle.tables.proofs.shipped.Tie as tie
@@ -18,15 +18,15 @@ unfolding handingOut
 returns c =
     let r = c .before .before in
     let s = r .before .before .before .args in
-    table-refused 4 1 (s .m) (s .out .now) (r .before .refused-length .ensures) (r .refused .ensures) (c .if1 .taken)
+    table-refused (shippedProfile (s .m)) (s .out .now) (r .before .refused-length .ensures) (r .refused .ensures) (c .if1 .taken)
 
 copy-requires : tie.Need-copy-requires
 copy-requires c κs =
     let r = c .before .before .before in
     let s = r .before .before .before .args in
     let taken = c .before .if1 .left in
-    let handed = handed-done 4 1 (s .m) (s .out .now) (r .before .refused-length .ensures) (r .refused .ensures) taken in
-    let room = room-found 4 1 (s .m) (s .out .now) (r .before .refused-length .ensures) (r .refused .ensures) taken in
+    let handed = handed-done (shippedProfile (s .m)) (s .out .now) (r .before .refused-length .ensures) (r .refused .ensures) taken in
+    let room = room-found (shippedProfile (s .m)) (s .out .now) (r .before .refused-length .ensures) (r .refused .ensures) taken in
     (in-range 1 128 _ 1 (r .before .refused-length .ensures) handed .most, room)
 
 add-t5 : tie.Need-add-t5
@@ -34,14 +34,14 @@ add-t5 c =
     let r = c .before .before .before .before .before .before in
     let s = r .before .before .before .args in
     let taken = c .before .before .before .before .if1 .left in
-    omega (arith, room-found 4 1 (s .m) (s .out .now) (r .before .refused-length .ensures) (r .refused .ensures) taken)
+    omega (arith, room-found (shippedProfile (s .m)) (s .out .now) (r .before .refused-length .ensures) (r .refused .ensures) taken)
 
 mul-t10 : tie.Need-mul-t10
 mul-t10 c =
     let r = c .before .before .before .before .before .before in
     let s = r .before .before .before .args in
     let taken = c .before .before .before .before .if1 .left in
-    omega (arith, room-found 4 1 (s .m) (s .out .now) (r .before .refused-length .ensures) (r .refused .ensures) taken)
+    omega (arith, room-found (shippedProfile (s .m)) (s .out .now) (r .before .refused-length .ensures) (r .refused .ensures) taken)
 
 same-length : tie.Need-same-length
 same-length c = search needs
@@ -52,7 +52,7 @@ returns-2 c =
     let r = c .before .before .before .before .before .before in
     let s = r .before .before .before .args in
     let taken = c .before .before .before .before .if1 .left in
-    table-written 4 1 (s .m) (s .out .now) (r .before .refused-length .ensures) (r .refused .ensures) taken (c .before .before .copy .ensures)
+    table-written (shippedProfile (s .m)) (s .out .now) (r .before .refused-length .ensures) (r .refused .ensures) taken (c .before .before .copy .ensures)
 
 pub shipped-spec : {M : Type 1} → statement M
 shipped-spec =

@@ -51,7 +51,7 @@ settled : (t : ℕ) (c : settle-cells-lts.After-settle-level (called t) (settle-
     → let a = c .before .before .before .before .before .before .before .before .args in
     let n = c .before .before .before .limbs-used .result in
     let i = numberAt (a .n) (a .rest .now) 0 in
-    Next (a .p .q) (a .p .x) (a .guard) (a .left) (a .table .now) n i (c .settle-level .result) (c .settle-level .last .1 .1 .0)
+    Next (a .p) (a .guard) (a .left) (a .table .now) n i (c .settle-level .result) (c .settle-level .last .1 .1 .0)
 settled t c =
     let known = c .before .before .before .before .before .before .before in
     let used = c .before .before .before .limbs-used .ensures in
@@ -61,7 +61,7 @@ settled t c =
 settle-cells-returns : (t : ℕ) → settle-cells-lts.Need-returns (called t) (settle-cells-at t) settle-cells.Post
 settle-cells-returns t c =
     let a = c .before .before .before .before .args in
-    nothing-left (a .p .q) (a .p .x) (a .guard) (numberAt (a .n) (a .rest .now) 0) (a .at) (a .out .now) (c .if1 .taken)
+    nothing-left (a .p) (a .guard) (numberAt (a .n) (a .rest .now) 0) (a .at) (a .out .now) (c .if1 .taken)
 
 settle-cells-mul-limbs-used : (t : ℕ) → settle-cells-lts.Need-mul-limbs-used (called t) (settle-cells-at t) settle-cells.Post
 settle-cells-mul-limbs-used t c = omega arith
@@ -72,7 +72,7 @@ settle-cells-limbs-used-requires t c κs = omega arith
 -- Where one limb is in use, the task is one by that limb.
 one-limb-left : (t : ℕ) (c : settle-cells-lts.Then2 (called t) (settle-cells-at t) settle-cells.Post)
     → let a = c .before .before .before .before .before .before .args in
-    Small (a .p .q) (a .p .x) (a .guard) (a .left) (a .table .now) (numberAt (a .n) (a .rest .now) 0) (a .rest .now)
+    Small (a .p) (a .guard) (a .left) (a .table .now) (numberAt (a .n) (a .rest .now) 0) (a .rest .now)
 one-limb-left t c =
     let known = c .before .before .before .before .before in
     small-task (known .before .pre .1 .0) (λ k. known .shared-slice-known .given k .fits) (c .before .limbs-used .ensures) (c .if2 .taken)

@@ -46,7 +46,7 @@ called t = (
 settled : (t : ℕ) (c : settle-small-lts.After-goes-in (called t) (settle-small-at t) settle-small.Post)
     → let a = c .before .before .before .before .before .before .args in
     let level = c .goes-in .result in
-    SmallNext (a .p .q) (a .p .x) (a .guard) (a .left) (a .table .now) (a .rest) level (a .rest - level * c .before .before .small-weight .result)
+    SmallNext (a .p) (a .guard) (a .left) (a .table .now) (a .rest) level (a .rest - level * c .before .before .small-weight .result)
 settled t c =
     let weighed = c .before .before in
     small-next (weighed .before .before .before .before .pre .1 .0) (omega arith) (weighed .small-weight .ensures) (c .goes-in .ensures)
@@ -61,7 +61,7 @@ inside t c =
 settle-small-returns : (t : ℕ) → settle-small-lts.Need-returns (called t) (settle-small-at t) settle-small.Post
 settle-small-returns t c =
     let a = c .before .before .before .args in
-    nothing-left (a .p .q) (a .p .x) (a .guard) (a .rest) (a .at) (a .out .now) (c .if1 .taken)
+    nothing-left (a .p) (a .guard) (a .rest) (a .at) (a .out .now) (c .if1 .taken)
 
 settle-small-small-weight-requires : (t : ℕ) → settle-small-lts.Need-small-weight-requires (called t) (settle-small-at t) settle-small.Post
 settle-small-small-weight-requires t c κs = (at-zero (c .before .before .before .pre .1 .0), omega arith)

@@ -11,7 +11,7 @@ use Rattle.word_of_index.proofs.settle_guarded.Tie as tie
 -- The limbs that were made hold the weight.
 weighs : (c : tie.After-add-multiple)
     → let a = c .before .before .before .before .before .before .before .args in
-    numberAt (a .n) (c .add-multiple .last .0) 0 ≡ weightBehind (a .p .q) (a .p .x) (a .guard) (a .left - 1)
+    numberAt (a .n) (c .add-multiple .last .0) 0 ≡ weightBehind (a .p) (a .guard) (a .left - 1)
 weighs c =
     let s = c .before .before .before .before .before .before .before in
     weight-made (s .pre .0) (s .pre .1) (c .before .before .before .low-cells .ensures) (c .before .power .ensures) (c .add-multiple .ensures .1)

@@ -12,7 +12,7 @@ use Rattle.word_of_index.proofs.settle_level.Tie as tie
 -- In an open stretch the row is the weight.
 weighs : (c : tie.Else1)
     → let a = c .before .before .before .args in
-    numberAt (a .n) (a .table .now) (10 * (a .left - 1)) ≡ weightBehind (a .p .q) (a .p .x) (a .guard) (a .left - 1)
+    numberAt (a .n) (a .table .now) (10 * (a .left - 1)) ≡ weightBehind (a .p) (a .guard) (a .left - 1)
 weighs c = row-weighs (c .before .before .before .pre .0) (c .before .before .before .pre .1) (c .if1 .left)
 
 settle-guarded-requires : tie.Need-settle-guarded-requires

@@ -13,7 +13,7 @@ use Rattle.word_of_index.proofs.small_weight.Tie as tie
 weighs : (c : tie.After-power)
     → let a = c .before .before .before .before .before .before .args in
     getD (a .table .now) (10 * (a .left - 1 - c .before .before .before .low-cells .result)) 0 * c .power .result
-    ≡ weightBehind (a .p .q) (a .p .x) (a .guard) (a .left - 1)
+    ≡ weightBehind (a .p) (a .guard) (a .left - 1)
 weighs c =
     let s = c .before .before .before .before .before .before in
     product-weighs (s .pre .0) (s .pre .1) (c .before .before .before .low-cells .ensures) (c .power .ensures)

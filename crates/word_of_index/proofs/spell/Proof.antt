@@ -19,7 +19,8 @@ same-length-2 c = search needs
 returns : tie.Need-returns
 returns c =
     let called = c .before .before .before .before in
-    rw (open-word _ _ _ _ (called .before .before .before .before .before .before .pre .0 .levels .least)) at (called .settle-cells .ensures)
+    let s = called .before .before .before .before .before .before in
+    rw (open-word (s .args .p) _ (s .pre .0 .levels .least)) at (called .settle-cells .ensures)
 
 pub spell-spec : {M : Type 1} → statement M
 spell-spec = tie.close (tie.spec settle-cells-requires same-length same-length-2 returns)

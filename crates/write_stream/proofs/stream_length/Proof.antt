@@ -2,7 +2,7 @@
 use Prim.Native.Nat.{_*_, _≤_}
 use native.Mathlib.Omega.{arith}
 use borrow.Author.Needs.{needs}
-use Rattle.streams.specs.Streams.{streamLength}
+use Rattle.profiles.specs.Profiles.{streamLength}
 use Rattle.streams.specs.FitLaws.{length-fits, few-cells}
 use Rattle.write_stream.proofs.stream_length.Statement.{statement}
 use Rattle.write_stream.proofs.stream_length.Tie as tie

@@ -2,7 +2,7 @@
 use Prim.Native.Nat.{_/_}
 use lib.ListN.{length}
 use borrow.Author.Needs.{needs}
-use Rattle.catalogue.specs.RatingLaws.{carries-messages}
+use Rattle.messages.specs.CarryingLaws.{carries-messages}
 use Rattle.write_stream.specs.Steps.{Ready, Fitting}
 use Rattle.write_stream.specs.CarrierLaws.{carries}
 use Rattle.write_stream.specs.RefusalLaws.{fitting}

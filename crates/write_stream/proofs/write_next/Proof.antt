@@ -2,7 +2,7 @@
 use Prim.Native.Nat.{_-_, _*_, _≤_, _<_}
 use native.Mathlib.Omega.{arith}
 use borrow.Author.Needs.{needs}
-use Rattle.streams.specs.Streams.{stride}
+use Rattle.profiles.specs.Profiles.{stride}
 use Rattle.write_stream.specs.CarrierLaws.{carries}
 use Rattle.write_stream.specs.NextLaws.{place-fits, bridge-place, first-word, next-word}
 use Rattle.write_stream.proofs.write_next.Statement.{statement}

@@ -13,7 +13,7 @@ use Rattle.tables.proofs.rows.build.Tie as tie
 
 abbrev Inv-loop : tie.InvT-loop
 Inv-loop p out₀ fresh₀ stage₀ out fresh stage =
-    Counted p stage fresh × (out ≡ frontRows (p .q) (p .x) (stage .i + 1) out₀) × (length out ≡ length out₀)
+    Counted p stage fresh × (out ≡ frontRows p (stage .i + 1) out₀) × (length out ≡ length out₀)
 
 abbrev μ-loop : tie.MeasureT-loop
 μ-loop p out₀ fresh₀ stage₀ out fresh stage = p .m - stage .i
@@ -63,7 +63,7 @@ loop-again c =
     let s = c .before .before .before .before .before .before .before in
     let l = s .before .before .before .before .before .before .before in
     let e = s .step .ensures in
-    (e .counted, front-next _ _ _ _ (l .loop .inv .1) (e .row) (e .held) (c .before .before .store2 .ensures), search needs)
+    (e .counted, front-next _ _ _ (l .loop .inv .1) (e .row) (e .held) (c .before .before .store2 .ensures), search needs)
 
 same-length : tie.Need-same-length Inv-loop μ-loop
 same-length c = search needs

@@ -8,16 +8,17 @@ use borrow.Author.Needs.{needs}
 use Rattle.tables.specs.RowLaws.{front-none, front-next}
 use Rattle.tables.specs.Rows.{frontRows}
 use Rattle.tables.proofs.shipped_rows.copy.Statement.{statement}
+use Rattle.tables.specs.Tables.{shippedProfile}
 use Rattle.tables.proofs.shipped_rows.copy.Tie as tie
 
 abbrev Inv-loop : tie.InvT-loop
-Inv-loop m out₀ i₀ out i = (i ≤ m + 1) × (out ≡ frontRows 4 1 i out₀) × (length out ≡ length out₀)
+Inv-loop m out₀ i₀ out i = (i ≤ m + 1) × (out ≡ frontRows (shippedProfile m) i out₀) × (length out ≡ length out₀)
 
 abbrev μ-loop : tie.MeasureT-loop
 μ-loop m out₀ i₀ out i = m + 1 - i
 
 loop-holds : tie.Need-loop-holds Inv-loop μ-loop
-loop-holds c = (omega arith, front-none 4 1 _, refl)
+loop-holds c = (omega arith, front-none _ _, refl)
 
 add-loop : tie.Need-add-loop Inv-loop μ-loop
 add-loop c = search needs
@@ -34,7 +35,7 @@ loop-less c = search needs
 loop-again : tie.Need-loop-again Inv-loop μ-loop
 loop-again c =
     let l = c .before .before .before .before .before .loop in
-    (omega arith, front-next 4 1 _ _ (l .inv .1) refl refl (c .before .before .copy-row .ensures), search needs)
+    (omega arith, front-next _ _ _ (l .inv .1) refl refl (c .before .before .copy-row .ensures), search needs)
 
 same-length : tie.Need-same-length Inv-loop μ-loop
 same-length c = search needs

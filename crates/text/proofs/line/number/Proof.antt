@@ -4,7 +4,7 @@ use Prim.Native.Nat.{_-_, _<_}
 use native.Mathlib.Omega.{arith}
 use lib.ListN.{length, getD}
 use borrow.Author.Needs.{needs}
-use Rattle.replies.specs.ReplyLaws.{Between}
+use Rattle.replies.specs.Ranges.{Between}
 use Rattle.text.specs.Text.{byte}
 use Rattle.text.specs.NumberLaws.{ReadTo, not-outside, digit-counted, digit-passed, read-to-other, read-to-end}
 use Rattle.text.proofs.line.number.Statement.{statement}

@@ -3,6 +3,7 @@ ghost use mathlib.Core.Path.{_≡_};
 ghost use lib.ListN.{length};
 ghost use Rattle.code.specs.Code.{index};
 ghost use Rattle.numbers.specs.Step.{messageOf};
+ghost use Rattle.profiles.specs.Profiles.{indexFor};
 ghost use Rattle.bits.specs.Bits.{bitsOf, withBits};
 ghost use Rattle.read_stream.specs.Reading.{bitsIn, bitsRead};
 ghost use Rattle.read_stream.specs.CarrierLaws.{Carrier, Readable};
@@ -22,10 +23,10 @@ fn put_message(
     at: usize,
 )
     requires { ⌜ Found p (now table) used s × Carrier p (now word) × Room s at (now out) ⌝ }
-    ensures { λ _. ⌜ now (out .exit) ≡ withBits at (bitsOf s (messageOf (index (p .q) (p .x) (now (word .entry))))) (now (out .entry)) ⌝ }
+    ensures { λ _. ⌜ now (out .exit) ≡ withBits at (bitsOf s (messageOf (indexFor p (now (word .entry))))) (now (out .entry)) ⌝ }
 {
     let mut sum = [0; 10];
-    index_of_word::put_index(p.q, p.x, table, used, word, &mut sum);
+    index_of_word::put_index(p, table, used, word, &mut sum);
     let index = Index(sum);
     let message = index.message();
     let limbs = message.0;

@@ -11,23 +11,15 @@ use borrow.Author.Tests.{leb-true, leb-false, eqb-true, eqb-false, eq-eqb, ne-eq
 use Rattle.limbs.specs.Limbs.{base, value, numberAt, holding}
 use Rattle.limbs.specs.BorrowLaws.{holding-difference}
 use Rattle.limbs.specs.HoldingLaws.{numberAt-holding-below}
+use Rattle.messages.specs.Carrying.{messageRefusal, CarriesMessages}
+use Rattle.messages.specs.HighestBit.{one-largest}
 use Rattle.replies.specs.declared.Profile.{Profile}
 use Rattle.replies.specs.Replies.{done, refused, refusedIf}
-use Rattle.replies.specs.ReplyLaws.{InRange}
-use Rattle.code.specs.Code.{N}
-use Rattle.code.specs.Messages.{wordsKeptOut, messageLength}
+use Rattle.replies.specs.Ranges.{InRange}
+use Rattle.code.specs.Messages.{wordsKeptOut}
 use Rattle.code.specs.MessageLaws.{Largest, length-is-largest, length-positive, length-zero}
 use Rattle.code.specs.Sizes.{count-fits}
-use Rattle.tables.specs.Tables.{Belongs}
-use Rattle.catalogue.specs.HighestBit.{one-largest}
-use Rattle.catalogue.specs.Rating.{messageRefusal}
-
--- N(m) and s of a profile.
-abbrev pub wordCount : Profile → ℕ
-wordCount p = N (p .q) (p .x) (p .m)
-
-abbrev pub lengthOf : Profile → ℕ
-lengthOf p = messageLength (p .q) (p .x) (p .m)
+use Rattle.profiles.specs.Profiles.{wordCount, lengthOf}
 
 -- Number 4 for m = 1 with q at most 3.
 no-message : (p : Profile) → InRange p → p .m ≡ 1 → p .q ≤ 3 → messageRefusal p ≡ refused 4 0
@@ -61,12 +53,6 @@ words-carry p = go (eqb (lengthOf p) 0) (eqb (wordCount p - wordsKeptOut) 0) ref
     go true b t e = absurd (omega arith)
     go false true t e = absurd (omega arith)
     go false false t e = let some : 0 < wordCount p - wordsKeptOut = pos-of-ne-zero (eqb-false _ 0 t) in omega arith
-
--- A profile in range that has words that carry messages, and a table that belongs to it.
-pub record CarriesMessages (p : Profile) (table : List ℕ) : Type 0 where
-  pub inRange : InRange p
-  pub carries : messageRefusal p .number ≡ 0
-  pub belongs : Belongs (p .q) (p .x) (p .m) table
 
 -- A number that is N(m) - 2: it is not 0, and the place of its highest bit is the message length.
 pub record LessKeptOut (p : Profile) (number : ℕ) : Type 0 where

@@ -1,9 +1,9 @@
--- `catalogue::refused_carrying` meets its contract: the first test that refuses decides.
+-- `messages::refused_carrying` meets its contract: the first test that refuses decides.
 use borrow.Author.Needs.{needs}
 use Rattle.replies.specs.ReplyLaws.{decides, leaves, profile-in-range}
-use Rattle.catalogue.specs.Rating.{carryingRefusal}
-use Rattle.catalogue.proofs.refused_carrying.Statement.{statement}
-use Rattle.catalogue.proofs.refused_carrying.Tie as tie
+use Rattle.messages.proofs.refused_carrying.Statement.{statement}
+use Rattle.messages.specs.Carrying.{carryingRefusal}
+use Rattle.messages.proofs.refused_carrying.Tie as tie
 
 refused-profile-requires : tie.Need-refused-profile-requires
 refused-profile-requires c κs = search needs

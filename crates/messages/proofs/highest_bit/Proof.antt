@@ -1,12 +1,12 @@
--- `catalogue::highest_bit` meets its contract: the zeros that lead in the highest limb in use give the place of the highest bit.
+-- `messages::highest_bit` meets its contract: the zeros that lead in the highest limb in use give the place of the highest bit.
 use native.Mathlib.Omega.{arith}
 use borrow.Author.Needs.{needs}
 use Rattle.limbs.proofs.limbs_used.Reads as limbs-used-reads
-use Rattle.catalogue.specs.HighestBit.{HighestBit, highest-bit}
-use Rattle.catalogue.proofs.highest_bit.Lts as lts
-use Rattle.catalogue.proofs.highest_bit.Reads as reads
-use Rattle.catalogue.proofs.highest_bit.Statement.{statement}
-use Rattle.catalogue.proofs.highest_bit.Tie as tie
+use Rattle.messages.proofs.highest_bit.Lts as lts
+use Rattle.messages.proofs.highest_bit.Reads as reads
+use Rattle.messages.proofs.highest_bit.Statement.{statement}
+use Rattle.messages.specs.HighestBit.{HighestBit, highest-bit}
+use Rattle.messages.proofs.highest_bit.Tie as tie
 
 -- What its call asks and ensures.
 abbrev claims : lts.Claims

@@ -1,11 +1,11 @@
--- `read_stream::messages::put_message` meets its contract.
+-- `read_stream::carried::put_message` meets its contract.
 use native.Mathlib.Nat.{le-of-eq}
 use native.Mathlib.Omega.{arith}
 use borrow.Author.Needs.{needs}
 use Rattle.limbs.specs.Limbs.{allLimbs}
 use Rattle.read_stream.specs.OutputLaws.{few-bits, word-indexable, index-held, message-held, message-put}
-use Rattle.read_stream.proofs.messages.put_message.Statement.{statement}
-use Rattle.read_stream.proofs.messages.put_message.Tie as tie
+use Rattle.read_stream.proofs.carried.put_message.Statement.{statement}
+use Rattle.read_stream.proofs.carried.put_message.Tie as tie
 
 table-limbs : (c : tie.After-sum) → allLimbs (c .before .before .before .before .args .table .now)
 table-limbs c k = c .before .before .before .shared-slice-known .given k .fits

@@ -1,9 +1,9 @@
--- `catalogue::refused_message` meets its contract: number 4 is exactly m = 1 with q at most 3.
+-- `messages::refused_message` meets its contract: number 4 is exactly m = 1 with q at most 3.
 use mathlib.Core.Path.{_∙_, sym}
 use borrow.Author.Needs.{needs}
-use Rattle.catalogue.specs.LengthLaws.{number-four}
-use Rattle.catalogue.proofs.refused_message.Statement.{statement}
-use Rattle.catalogue.proofs.refused_message.Tie as tie
+use Rattle.messages.proofs.refused_message.Statement.{statement}
+use Rattle.messages.specs.LengthLaws.{number-four}
+use Rattle.messages.proofs.refused_message.Tie as tie
 
 refused-if-requires : tie.Need-refused-if-requires
 refused-if-requires c κs = search needs

@@ -1,15 +1,16 @@
--- `catalogue::message_length` meets its contract: the limbs hold N(m) - 2, and the place of its highest bit is s.
+-- `messages::message_length` meets its contract: the limbs hold N(m) - 2, and the place of its highest bit is s.
 use native.Mathlib.Omega.{arith}
 use borrow.Author.Needs.{needs}
 use Rattle.limbs.specs.Limbs.{numberAt}
 use Rattle.limbs.proofs.add.Reads as add-reads
 use Rattle.limbs.proofs.subtract.Reads as subtract-reads
-use Rattle.catalogue.specs.LengthLaws.{LessKeptOut, row-less-kept-out}
-use Rattle.catalogue.proofs.highest_bit.Reads as highest-bit-reads
-use Rattle.catalogue.proofs.message_length.Lts as lts
-use Rattle.catalogue.proofs.message_length.Reads as reads
-use Rattle.catalogue.proofs.message_length.Statement.{statement}
-use Rattle.catalogue.proofs.message_length.Tie as tie
+use Rattle.messages.proofs.highest_bit.Reads as highest-bit-reads
+use Rattle.messages.proofs.message_length.Lts as lts
+use Rattle.messages.proofs.message_length.Reads as reads
+use Rattle.messages.proofs.message_length.Statement.{statement}
+use Rattle.messages.specs.LengthLaws.{LessKeptOut, row-less-kept-out}
+use Rattle.messages.specs.HighestBit.{highest-bit}
+use Rattle.messages.proofs.message_length.Tie as tie
 
 slice-aggregate-add : tie.Need-slice-aggregate-add
 slice-aggregate-add c = search needs

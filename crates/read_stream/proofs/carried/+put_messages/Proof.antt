@@ -1,4 +1,4 @@
--- `read_stream::messages::put_messages` meets its contract. It ends because the part that is handed on is shorter.
+-- `read_stream::carried::put_messages` meets its contract. It ends because the part that is handed on is shorter.
 use mathlib.Core.Path.{sym, _∙_}
 use Prim.Native.Nat.{ℕ, _<_}
 use native.Mathlib.Nat.{le-of-lt, pos-of-ne-zero}
@@ -8,17 +8,17 @@ use lib.Seq.{length-take-le}
 use borrow.Author.Needs.{needs}
 use borrow.Fn.Kinds.{In}
 use borrow.Fn.PlainCycle.{Measures, is, falls, and}
-use Rattle.streams.specs.Streams.{stride}
+use Rattle.profiles.specs.Profiles.{stride}
 use Rattle.streams.specs.FitLaws.{rest-of}
 use Rattle.streams.specs.PartLaws.{handed-on}
 use Rattle.read_stream.specs.CarrierLaws.{first-carries, last-carries, rest-readable}
 use Rattle.read_stream.specs.OutputLaws.{Room, room-first, room-rest, put-none, put-last, put-more}
-use Rattle.read_stream.proofs.messages.put_messages.Reads as put-messages
-use Rattle.read_stream.proofs.messages.put_messages.Kinds as put-messages-kinds
-use Rattle.read_stream.proofs.messages.+put_messages.Lts-put_messages as put-messages-lts
-use Rattle.read_stream.proofs.messages.put_message.Reads as put-message-reads
-use Rattle.read_stream.proofs.messages.+put_messages.{statement}
-use Rattle.read_stream.proofs.messages.+put_messages.Tie.{close}
+use Rattle.read_stream.proofs.carried.put_messages.Reads as put-messages
+use Rattle.read_stream.proofs.carried.put_messages.Kinds as put-messages-kinds
+use Rattle.read_stream.proofs.carried.+put_messages.Lts-put_messages as put-messages-lts
+use Rattle.read_stream.proofs.carried.put_message.Reads as put-message-reads
+use Rattle.read_stream.proofs.carried.+put_messages.{statement}
+use Rattle.read_stream.proofs.carried.+put_messages.Tie.{close}
 
 -- The cells left.
 abbrev μ-put-messages : Measures 3 put-messages-kinds.ps ℕ

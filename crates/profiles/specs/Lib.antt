@@ -1,0 +1,3 @@
+-- Profiles holds the definitions, Examples the worked examples.
+pub mod Profiles
+pub mod Examples
