@@ -1,11 +1,11 @@
 -- The shipped table, of q = 4 and x = 1: 129 rows of four limbs. Each is held to the recursion, once over all rows.
 use mathlib.Core.Path.{_≡_, refl, ap, _∙_}
-use mathlib.Core.Bool.{Bool, true}
+use mathlib.Core.Bool.{Bool, true, false, cond, _||_}
 use mathlib.Core.List.{List, [], _∷_}
 use Prim.Native.Nat.{ℕ, zero, suc, _+_, _-_, _*_, _≤_, zero-le}
 use native.Mathlib.Nat.{zero-add, suc-add}
 use native.Mathlib.Omega.{arith}
-use lib.Dec.{lit<}
+use lib.Dec.{ltb, lit<}
 use lib.ListN.{getD}
 use Rattle.limbs.specs.Limbs.{limbsOf}
 use Rattle.listing.specs.Every.{every}
@@ -15,7 +15,9 @@ use Rattle.listing.specs.EachLevel.{each-level}
 use Rattle.code.specs.Code.{N}
 use Rattle.code.specs.Formulas.{withNext, countsDownFrom, countByRecursion}
 use Rattle.code.specs.Theorem1.{recursion-counts}
+use Rattle.replies.specs.Replies.{done, refusedIf, orElse, outsideRefusal, profileRefusal, isDone, lengthRefusal}
 use Rattle.tables.specs.Rows.{withRow}
+use Rattle.tables.specs.Tables.{handingOut, building, shippedProfile}
 
 -- The limbs, as the constant has them.
 unfoldable pub shippedLimbs : List ℕ
@@ -188,3 +190,17 @@ shipped-row i l =
 pub row-copied : (i : ℕ) (lent : List ℕ) {after : List ℕ} → i ≤ 128 → after ≡ withRow i (shippedRow i) lent
     → after ≡ withRow i (limbsOf 10 (N 4 1 i)) lent
 row-copied i lent l e = e ∙ ap (λ (row : List ℕ). withRow i row lent) (shipped-row i l)
+
+-- Of the tests of its profile only that of m can refuse.
+length-alone : (m : ℕ) → profileRefusal (shippedProfile m) ≡ lengthRefusal m
+unfolding profileRefusal outsideRefusal orElse
+length-alone m = go (ltb m 1 || ltb 128 m)
+  where
+    go : (outside : Bool) → cond (isDone (refusedIf outside 2)) done (refusedIf outside 2) ≡ refusedIf outside 2
+    go true = refl
+    go false = refl
+
+-- Handing out the shipped table gives what building the table of q = 4 and x = 1 gives.
+pub shipped-is-built : (m : ℕ) (lent : List ℕ) → handingOut m lent ≡ building (shippedProfile m) lent
+unfolding handingOut building
+shipped-is-built m lent = rw (length-alone m)
