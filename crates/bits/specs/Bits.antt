@@ -1,7 +1,7 @@
 -- Bits, the high bit first: those of a number, of bytes, of messages one behind the other without a gap; and bits packed into bytes.
 use mathlib.Core.List.{List, [], _∷_, _++_}
-use Prim.Native.Nat.{ℕ, zero, suc, _+_, _*_, _/_, _%_, _^_}
-use lib.ListN.{length, take, drop, replicate}
+use Prim.Native.Nat.{ℕ, zero, suc, _+_, _*_, _/_, _%_, _^_, _<_}
+use lib.ListN.{length, take, drop, replicate, getD}
 
 -- The n lowest bits of a number, the highest of them first.
 unfoldable pub bitsOf : ℕ → ℕ → List ℕ
@@ -44,3 +44,7 @@ messagesIn s (suc n) bits = numberOf (take s bits) ∷ messagesIn s n (drop s bi
 unfoldable pub withBits : ℕ → List ℕ → List ℕ → List ℕ
 withBits at [] bytes = bytes
 withBits at (b ∷ bits) bytes = packed (take at (bitsOfBytes bytes) ++ (b ∷ bits)) ++ drop (bytesFor (at + length (b ∷ bits))) bytes
+
+-- Each element of a list is a byte.
+abbrev pub allBytes : List ℕ → Type 0
+allBytes bytes = (i : ℕ) → getD bytes i 0 < 256

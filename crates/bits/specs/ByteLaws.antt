@@ -9,13 +9,9 @@ use lib.Dec.{lit<}
 use lib.ListN.{length, getD, set, take, drop, replicate, length-append, length-take, length-replicate, take-append-drop}
 use lib.Seq.{take-at, drop-at, take-append-add, take-suc, append-snoc, set-at, set-split}
 use lib.Pow.{pow-pos, pow-add, shl-lt, shr-lt, shr-mod}
-use Rattle.bits.specs.Bits.{bitsOf, numberOf, bitsOfBytes, bytesFor, packedInto, packed, withBits}
+use Rattle.bits.specs.Bits.{bitsOf, numberOf, bitsOfBytes, bytesFor, packedInto, packed, withBits, allBytes}
 use Rattle.bits.specs.BitLaws.{take-below, length-bitsOf, numberOf-append, numberOf-bitsOf, length-bitsOfBytes}
 use Rattle.bits.specs.PieceLaws.{take-bytes, bits-before}
-
--- Each element of a list is a byte.
-abbrev pub allBytes : List ℕ → Type 0
-allBytes bytes = (i : ℕ) → getD bytes i 0 < 256
 
 -- Bytes that are whole are packed as they are.
 pub packed-whole : (x k : ℕ) (bits : List ℕ) → x < 256 → packedInto (suc k) (bitsOf 8 x ++ bits) ≡ x ∷ packedInto k bits

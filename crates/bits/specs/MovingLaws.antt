@@ -10,11 +10,11 @@ use lib.Dec.{lit<}
 use lib.ListN.{length, getD, set, take, drop, length-take, length-drop, length-set}
 use lib.Pow.{pow-mono, pow-add, shr-shr}
 use lib.Seq.{take-add, take-all, drop-drop}
-use Rattle.bits.specs.Bits.{bitsOf, numberOf, bitsOfBytes, withBits}
+use Rattle.bits.specs.Bits.{bitsOf, numberOf, bitsOfBytes, withBits, allBytes}
 use Rattle.bits.specs.BitLaws.{take-bits, drop-bits, bitsOf-bits, bitsOf-append, bitsOf-below, bitsOfBytes-bits, length-bitsOf, length-bitsOfBytes, numberOf-bitsOf, numberOf-take-below, numberOf-take-more}
 use Rattle.bits.specs.WithLaws.{with-bits-more, length-with-bits}
 use Rattle.bits.specs.PieceLaws.{piece-of-number, piece-of-bytes}
-use Rattle.bits.specs.ByteLaws.{allBytes, set-before-bits}
+use Rattle.bits.specs.ByteLaws.{set-before-bits}
 
 -- The number of the first n bits from bit place `at` on.
 abbrev pub numberFrom : List ℕ → ℕ → ℕ → ℕ

@@ -10,9 +10,9 @@ use lib.Pow.{pow-pos}
 use lib.ListN.{length, take, drop, getD, replicate, length-append, length-take, length-drop, take-append-drop, List·getD-append, List·getD-eq-default}
 use lib.Seq.{take-at, drop-at, take-all, length-take-le, getD-take, getD-drop, ext-getD}
 use borrow.Author.Tests.{ltb-true, ltb-false}
-use Rattle.bits.specs.Bits.{bitsOf, numberOf, bitsOfBytes, bytesFor, packedInto, packed, bitsOfMessages, messagesIn}
+use Rattle.bits.specs.Bits.{bitsOf, numberOf, bitsOfBytes, bytesFor, packedInto, packed, bitsOfMessages, messagesIn, allBytes}
 use Rattle.bits.specs.BitLaws.{allBits, append-bits, take-bits, drop-bits, length-bitsOf, bitsOf-bits, numberOf-bitsOf, numberOf-take-below, bitsOf-numberOf, length-bitsOfBytes, bitsOfBytes-append}
-use Rattle.bits.specs.ByteLaws.{allBytes, packed-whole}
+use Rattle.bits.specs.ByteLaws.{packed-whole}
 use Rattle.bits.specs.WithLaws.{length-packedInto, getD-zeros, length-first, getD-packedInto, take-packedInto}
 
 -- Each element of a list is a message of s bits.

@@ -1,4 +1,5 @@
 -- The code of q levels, word length m and reach x.
+use mathlib.Core.Path.{_≡_}
 use mathlib.Core.Bool.{Bool}
 use mathlib.Core.List.{List}
 use Prim.Native.Nat.{ℕ, _-_}
@@ -33,3 +34,9 @@ index q x w = indexIn q (legal q x) w
 -- The word of an index, the leftmost level settled first.
 unfoldable pub word : ℕ → ℕ → ℕ → ℕ → List ℕ
 word q x m i = wordOf q (legal q x) m i
+
+-- There is exactly one legal word with i legal words before it, and settling the leftmost level first finds it.
+pub record OneWord (q x m i : ℕ) : Type 0 where
+  pub found : LegalWord q x m (word q x m i)
+  pub its-index : index q x (word q x m i) ≡ i
+  pub only : (w : List ℕ) → LegalWord q x m w → index q x w ≡ i → w ≡ word q x m i

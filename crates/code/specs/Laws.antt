@@ -12,19 +12,15 @@ use Rattle.patterns.specs.Stream.{filled, streamOf}
 use Rattle.patterns.specs.OccursLaws.{turned-free}
 use Rattle.patterns.specs.FreeLaws.{top-run-free, zero-run-free}
 use Rattle.patterns.specs.StreamLaws.{stream-free}
-use Rattle.listing.specs.Every.{every, every-reverse, every-replicate}
+use Rattle.listing.specs.Every.{every}
 use Rattle.listing.specs.Listing.{before}
 use Rattle.listing.specs.Order.{index-keeps-order, index-injective, index-below-count, lower-index-before}
 use Rattle.listing.specs.Inverse.{exactly-one, index-has-word, word-keeps-order}
 use Rattle.listing.specs.Limits.{zeros-first, tops-last}
-use Rattle.code.specs.Code.{published, legal, LegalWord, N, index, word}
+use Rattle.listing.specs.EveryLaws.{every-reverse, every-replicate}
+use Rattle.code.specs.Code.{published, legal, LegalWord, N, index, word, OneWord}
 
 -- For each i below N(m) there is exactly one legal word with i legal words before it, and settling the leftmost level first finds it.
-pub record OneWord (q x m i : ℕ) : Type 0 where
-  pub found : LegalWord q x m (word q x m i)
-  pub its-index : index q x (word q x m i) ≡ i
-  pub only : (w : List ℕ) → LegalWord q x m w → index q x w ≡ i → w ≡ word q x m i
-
 pub one-word-of-index : (q x m i : ℕ) → i < N q x m → OneWord q x m i
 unfolding N index word
 one-word-of-index q x m i l =

@@ -11,9 +11,9 @@ use borrow.Author.Tests.{ltb-false, eq-eqb, ne-eqb}
 use Rattle.replies.specs.declared.Reply.{Reply}
 use Rattle.replies.specs.declared.Profile.{Profile}
 use Rattle.replies.specs.declared.Written.{Written}
-use Rattle.replies.specs.Replies.{done, profileRefusal, roomRefusal}
+use Rattle.replies.specs.Replies.{done, profileRefusal, roomRefusal, Comes}
 use Rattle.replies.specs.ReplyLaws.{has-room, room-enough}
-use Rattle.replies.specs.WritingLaws.{Comes, writing-refused, writing-done, count-inside}
+use Rattle.replies.specs.WritingLaws.{writing-refused, writing-done, count-inside}
 use Rattle.profiles.specs.Profiles.{wordCount}
 use Rattle.text.specs.Text.{bytes, decimal}
 use Rattle.text.specs.Line.{profileIn, isLineOf}

@@ -75,4 +75,4 @@ pub cells-spelt : (p : Profile) {i : ℕ} → i < wordCount p → (index lent : 
     → after ≡ take 0 lent ++ (wordFor p (numberAt 10 index 0) ++ drop (0 + p .m) lent)
     → take (p .m) after ≡ wordFor p i
 cells-spelt p {i} below index lent ten same e =
-    rw (e, whole-index index ten, same) (take-at (wordFor p i) _ (p .m) (one-word-of-index (p .q) (p .x) (p .m) i below .found .cells))
+    rw (e, whole-index index ten, same) (take-at (wordFor p i) _ (p .m) (one-word-of-index _ _ _ i below .found .cells))

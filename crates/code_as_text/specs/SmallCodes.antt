@@ -64,5 +64,5 @@ small-codes {p} range few i l = go (leb (p .q) 10) refl (short-words range few)
     go true e short = let long = length-word (p .q) (p .x) (p .m) i 0 l (leb-true (p .q) 10 e) in omega arith
     go false e short =
         let levels = range .levels in
-        let long = length-word (p .q) (p .x) (p .m) i 1 l (omega arith) in
+        let long = length-word _ _ _ i 1 l (omega arith) in
         omega arith

@@ -37,6 +37,6 @@ small-length p few = go (isDone (messageRefusal p)) refl
   where
     go : (t : Bool) → isDone (messageRefusal p) ≡ t → cond t (lengthOf p) 0 < 64
     go true t =
-        let fits = length-is-largest (p .q) (p .x) (p .m) (words-carry p (eqb-true _ 0 t)) .fits in
+        let fits = length-is-largest _ _ _ (words-carry p (eqb-true _ 0 t)) .fits in
         lt-of-not-le (λ (more : 64 ≤ lengthOf p). let large = pow-mono more in omega arith)
     go false t = omega arith

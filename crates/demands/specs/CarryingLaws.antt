@@ -15,8 +15,10 @@ use Rattle.replies.specs.declared.Profile.{Profile}
 use Rattle.replies.specs.Replies.{orElse}
 use Rattle.replies.specs.ReplyLaws.{both-done, test-failed}
 use Rattle.replies.specs.Ranges.{InRange}
-use Rattle.numbers.specs.Step.{indexOf, message-of-index}
-use Rattle.listing.specs.Every.{every, every-replicate, every-equal}
+use Rattle.numbers.specs.Step.{indexOf}
+use Rattle.numbers.specs.StepLaws.{message-of-index}
+use Rattle.listing.specs.Every.{every}
+use Rattle.listing.specs.EveryLaws.{every-replicate, every-equal}
 use Rattle.code.specs.Code.{index}
 use Rattle.code.specs.Laws.{one-word-of-index, word-of-index-of-word, zeros-index, zeros-only, tops-index}
 use Rattle.profiles.specs.Profiles.{isWord, lengthOf, LegalFor, indexFor}

@@ -1,44 +1,22 @@
 -- Demand 2, on streams. Written streams follow the published bridging, reading gives back the message bits, and every stream that reads is the
 -- stream those bits write.
 use mathlib.Core.Path.{_≡_, sym}
-use mathlib.Core.Bool.{true}
-use mathlib.Core.List.{List, map}
-use Prim.Native.Nat.{ℕ, _*_, _≤_}
-use lib.ListN.{length, take, drop, getD}
+use mathlib.Core.List.{List}
+use Prim.Native.Nat.{ℕ, _≤_}
+use lib.ListN.{length, take, drop}
 use Rattle.replies.specs.declared.Profile.{Profile}
-use Rattle.replies.specs.Replies.{Outcome}
-use Rattle.numbers.specs.Step.{indexOf}
-use Rattle.listing.specs.Every.{every}
-use Rattle.code.specs.Laws.{OneWord, one-word-of-index}
-use Rattle.profiles.specs.Profiles.{lengthOf, streamLength}
-use Rattle.bits.specs.Bits.{bytesFor, packed}
-use Rattle.bits.specs.ByteLaws.{allBytes}
-use Rattle.streams.specs.Streams.{Stream, wordsOf}
+use Rattle.code.specs.Laws.{one-word-of-index}
+use Rattle.bits.specs.Bits.{bytesFor, packed, allBytes}
 use Rattle.streams.specs.AcceptedLaws.{stream-exact}
-use Rattle.write_stream.specs.Writing.{messagesHeld, messagesOf, carrier, streamWritten, writingStream}
+use Rattle.write_stream.specs.Writing.{streamWritten, writingStream}
 use Rattle.write_stream.specs.CarrierLaws.{index-below}
 use Rattle.read_stream.specs.Reading.{bitsRead, readingStream}
-use Rattle.demands.specs.Outcomes.{Done, doneWith, cellsWritten, carriesMessage, WroteStream, ReadBits}
+use Rattle.demands.specs.Outcomes.{Done, doneWith, cellsWritten, WroteMessages, ReadMessages}
 use Rattle.demands.specs.OutcomeLaws.{written-cells, wrote-stream}
 use Rattle.demands.specs.CarryingLaws.{in-range, carrying}
 use Rattle.demands.specs.WritingLaws.{done-writable, writable-done, messages-held, words-held}
 use Rattle.demands.specs.ReadingLaws.{read-count, reading-done, done-readable}
 use Rattle.demands.specs.TripLaws.{written-stream, written-carry, written-read, read-stream, read-writable}
-
--- The messages are written: the stream of the words that carry them, each the one legal word of its message's index. For n messages of s bits these
--- are n words with their bridges.
-pub record WroteMessages (p : Profile) (bytes : List ℕ) (bits : ℕ) (lent : List ℕ) (outcome : Outcome) : Type 0 where
-  pub wrote : WroteStream p (map (carrier p) (messagesOf p bytes bits)) lent outcome
-  pub each : (i : ℕ) → OneWord (p .q) (p .x) (p .m) (indexOf (getD (messagesOf p bytes bits) i 0))
-  pub carry : every (carriesMessage p) (map (carrier p) (messagesOf p bytes bits)) ≡ true
-  pub bits-counted : bits ≡ messagesHeld p bits * lengthOf p
-  pub cells-counted : outcome .answer .count ≡ streamLength p (messagesHeld p bits)
-
--- A stream is read: its words carry messages, and for n words these are n s bits.
-pub record ReadMessages (p : Profile) (cells lent : List ℕ) (outcome : Outcome) : Type 0 where
-  pub stream : Stream p (wordsOf p cells) cells
-  pub carry : every (carriesMessage p) (wordsOf p cells) ≡ true
-  pub read : ReadBits p (length (wordsOf p cells)) (bitsRead p cells) lent outcome
 
 module _ (p : Profile) (table : List ℕ) where
   -- Written streams follow the published bridging.

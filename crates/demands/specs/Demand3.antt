@@ -14,26 +14,18 @@ use Rattle.replies.specs.declared.Profile.{Profile}
 use Rattle.replies.specs.Replies.{profileRefusal, Outcome}
 use Rattle.replies.specs.ReplyLaws.{both-done, profile-in-range}
 use Rattle.replies.specs.Ranges.{InRange, mostWords}
-use Rattle.listing.specs.Every.{every, every-append}
+use Rattle.listing.specs.Every.{every}
+use Rattle.listing.specs.EveryLaws.{every-append}
+use Rattle.listing.specs.Same.{same}
 use Rattle.patterns.specs.Stream.{streamOf}
 use Rattle.streams.specs.Streams.{Stream}
 use Rattle.streams.specs.JoinedLaws.{turnedWords, length-turned-words, turned-words-append, joined-stream, turned-stream}
 use Rattle.join_streams.specs.Joining.{joiningStreams, turningStream}
 use Rattle.read_stream.specs.Reading.{bitsRead, readingStream}
-use Rattle.demands.specs.Outcomes.{doneWith, cellsWritten, carriesMessage, Room, WroteStream, BitRoom, ReadBits}
+use Rattle.demands.specs.Outcomes.{doneWith, cellsWritten, carriesMessage, Room, WroteStream, BitRoom, ReadBits, SameStream, AddsNothing}
 use Rattle.demands.specs.OutcomeLaws.{wrote-stream}
 use Rattle.demands.specs.JoiningLaws.{joining-done, turning-done}
 use Rattle.demands.specs.ReadingLaws.{read-count, read-append, reading-done}
-
--- Two calls have the same outcome, and it is that the stream of these words is written.
-pub record SameStream (p : Profile) (words : List (List ℕ)) (lent : List ℕ) (first second : Outcome) : Type 0 where
-  pub same : first ≡ second
-  pub wrote : WroteStream p words lent first
-
--- A stream joined with an empty one before it, and behind it, is the stream itself.
-pub record AddsNothing (p : Profile) (cells lent : List ℕ) : Type 0 where
-  pub before : joiningStreams p [] cells lent ≡ doneWith (length cells) cells lent
-  pub behind : joiningStreams p cells [] lent ≡ doneWith (length cells) cells lent
 
 module _ (p : Profile) (profile : profileRefusal p .number ≡ 0) where
   range : InRange p

@@ -3,15 +3,13 @@
 use mathlib.Core.Path.{_≡_, sym, _∙_}
 use mathlib.Core.List.{List}
 use Prim.Native.Nat.{ℕ}
-use Rattle.replies.specs.declared.Written.{Written}
-use Rattle.replies.specs.Replies.{Outcome}
-use Rattle.replies.specs.WritingLaws.{Comes}
+use Rattle.replies.specs.Replies.{Comes, OutcomeOf}
 
 -- A call that is lent nothing to write promises that its answer is what its definition gives.
 pub one-answer : {A : Type 0} {given first second : A} → first ≡ given → second ≡ given → first ≡ second
 one-answer e f = e ∙ sym f
 
 -- A call that writes promises that its answer and the lent list afterwards are those of the outcome that its definition gives.
-pub one-outcome : (outcome : Outcome) {first second : Written} {left after : List ℕ} → Comes outcome first left → Comes outcome second after
+pub one-outcome : {A : Type 0} (outcome : OutcomeOf A) {first second : A} {left after : List ℕ} → Comes outcome first left → Comes outcome second after
     → (first ≡ second) × (left ≡ after)
 one-outcome outcome e f = (one-answer (e .0) (f .0), one-answer (e .1) (f .1))

@@ -11,10 +11,9 @@ use Rattle.replies.specs.declared.Profile.{Profile}
 use Rattle.replies.specs.Ranges.{InRange}
 use Rattle.listing.specs.Every.{every}
 use Rattle.profiles.specs.Profiles.{lengthOf}
-use Rattle.bits.specs.Bits.{bitsOfBytes, bytesFor, packed}
+use Rattle.bits.specs.Bits.{bitsOfBytes, bytesFor, packed, allBytes}
 use Rattle.bits.specs.BitLaws.{allBits, take-bits, bitsOfBytes-bits, length-bitsOfBytes}
 use Rattle.bits.specs.WithLaws.{length-packedInto}
-use Rattle.bits.specs.ByteLaws.{allBytes}
 use Rattle.bits.specs.RoundTrip.{bytes-enough, bits-of-their-messages, messages-of-their-bits, bitsOfMessages-bits, bits-of-packed, behind-packed, packed-from-bytes}
 use Rattle.streams.specs.Streams.{Stream, wordsOf}
 use Rattle.streams.specs.AcceptedLaws.{stream-exact}

@@ -89,7 +89,7 @@ not-refused-word p table cells e =
     let profile = both-done _ _ e in
     let rows = both-done _ _ (profile .second) in
     let long = both-done _ _ (rows .second) in
-    let accepted = cells-accepted (p .q) (p .x) cells (long .second) in
+    let accepted = cells-accepted _ _ cells (long .second) in
     record {
       range = profile-in-range p refl (profile .first);
       belongs = table-belongs p table (rows .first);

@@ -87,7 +87,7 @@ module _ {p : Profile} {n : ℕ} {table cells sum : List ℕ} (s : Indexable p n
       lent = s .lent;
       spans = span .some .most;
       long = omega (arith, s .belongs .long, kept);
-      small = λ j r below inside. rw (s .belongs .rows r (omega (arith, kept))) (row-fits (p .q) (p .x) j (s .levels .least) span below);
+      small = λ j r below inside. rw (s .belongs .rows r (omega (arith, kept))) (row-fits _ _ j (s .levels .least) span below);
       taken = lt-of-le-of-lt (counted .few) (lit< tt);
     }
 

@@ -6,9 +6,9 @@ use native.Mathlib.Omega.{arith}
 use lib.ListN.{length, drop, length-reverse}
 use Rattle.replies.specs.declared.Reply.{Reply}
 use Rattle.replies.specs.declared.Profile.{Profile}
-use Rattle.replies.specs.Replies.{done, orElse, profileRefusal, roomRefusal}
+use Rattle.replies.specs.Replies.{done, orElse, profileRefusal, roomRefusal, Comes}
 use Rattle.replies.specs.ReplyLaws.{both-done, profile-in-range, has-room}
-use Rattle.replies.specs.WritingLaws.{Comes, writing-refused, writing-done}
+use Rattle.replies.specs.WritingLaws.{writing-refused, writing-done}
 use Rattle.replies.specs.Ranges.{InRange}
 use Rattle.patterns.specs.Stream.{joined, turned}
 use Rattle.profiles.specs.Profiles.{patternsOf}

@@ -9,3 +9,5 @@ pub mod Order
 pub mod Inverse
 pub mod Limits
 pub mod EachLevel
+pub mod EveryLaws
+pub mod SameLaws

@@ -25,14 +25,14 @@ use Rattle.profiles.specs.Profiles.{wordCount, lengthOf}
 no-message : (p : Profile) → InRange p → p .m ≡ 1 → p .q ≤ 3 → messageRefusal p ≡ refused 4 0
 unfolding messageRefusal
 no-message p range one three =
-    let none = length-zero (p .q) (p .x) (p .m) (range .levels .least) (range .length .least) .1 (one, three) in rw (eq-eqb (lengthOf p) 0 none)
+    let none = length-zero _ _ _ (range .levels .least) (range .length .least) .1 (one, three) in rw (eq-eqb (lengthOf p) 0 none)
 
 -- And for no other profile in range.
 some-message : (p : Profile) → InRange p → ((p .m ≡ 1) × (p .q ≤ 3) → ⊥) → messageRefusal p ≡ done
 unfolding messageRefusal
 some-message p range other =
-    let some : lengthOf p ≡ 0 → ⊥ = λ none. other (length-zero (p .q) (p .x) (p .m) (range .levels .least) (range .length .least) .0 none) in
-    let four = length-positive (p .q) (p .x) (p .m) .0 (pos-of-ne-zero some) in
+    let some : lengthOf p ≡ 0 → ⊥ = λ none. other (length-zero _ _ _ (range .levels .least) (range .length .least) .0 none) in
+    let four = length-positive _ _ _ .0 (pos-of-ne-zero some) in
     rw (ne-eqb (lengthOf p) 0 some, ne-eqb (wordCount p - wordsKeptOut) 0 (λ none. omega arith))
 
 -- So it is given by m and q alone.
@@ -62,7 +62,7 @@ pub record LessKeptOut (p : Profile) (number : ℕ) : Type 0 where
 less-kept-out : (p : Profile) → messageRefusal p .number ≡ 0 → LessKeptOut p (wordCount p - wordsKeptOut)
 less-kept-out p carries =
     let more = words-carry p carries in
-    record { some = omega arith; length = λ {s} large. one-largest large (length-is-largest (p .q) (p .x) (p .m) more) }
+    record { some = omega arith; length = λ {s} large. one-largest large (length-is-largest _ _ _ more) }
 
 -- Ten limbs of 0, and ten that hold the number of words kept out.
 abbrev zeros : List ℕ
@@ -81,7 +81,7 @@ kept-out-hold = refl
 
 -- N(m) fits ten limbs.
 pub words-fit : {p : Profile} → InRange p → wordCount p < base ^ 10
-words-fit {p} range = count-fits (p .q) (p .x) (p .m) (range .levels .least) (range .levels .most) (range .length .most) (range .reach .least)
+words-fit {p} range = count-fits _ _ _ (range .levels .least) (range .levels .most) (range .length .most) (range .reach .least)
 
 -- It is what the ten limbs of 0 hold once row m of the table is added and the words kept out are subtracted.
 pub row-less-kept-out : {p : Profile} {table added rest : List ℕ} → CarriesMessages p table
@@ -98,6 +98,6 @@ row-less-kept-out {p} {table} {added} {rest} h e f =
 -- In range the message length is below 640.
 pub length-below : {p : Profile} → InRange p → messageRefusal p .number ≡ 0 → lengthOf p < 640
 length-below {p} range carries =
-    let fits = length-is-largest (p .q) (p .x) (p .m) (words-carry p carries) .fits in
+    let fits = length-is-largest _ _ _ (words-carry p carries) .fits in
     let below = lt-of-le-of-lt (le-trans fits (sub-le _ 2)) (words-fit range) in
     lt-of-not-le (λ (more : 640 ≤ lengthOf p). not-le-of-lt below (pow-mono more))

@@ -1,2 +1,3 @@
 -- Step holds the one step between an index and a message.
 pub mod Step
+pub mod StepLaws

@@ -8,7 +8,8 @@ use native.Mathlib.Omega.{arith}
 use lib.Dec.{eqb}
 use lib.ListN.{length, length-reverse}
 use borrow.Author.Tests.{eqb-true, eqb-false, eq-eqb}
-use Rattle.listing.specs.Every.{every, every-reverse}
+use Rattle.listing.specs.Every.{every}
+use Rattle.listing.specs.EveryLaws.{every-reverse}
 use Rattle.patterns.specs.Pattern.{Patterns, middleThenTop, patternOf, patternUpTo, patternFree}
 
 -- Two tests of which each implies the other are equal.

@@ -8,7 +8,8 @@ use native.Mathlib.Numerals.{sub-one}
 use native.Mathlib.Omega.{arith}
 use lib.ListN.{length, length-append, length-replicate}
 use borrow.Author.Tests.{eqb-true}
-use Rattle.listing.specs.Every.{every, every-append, every-reverse}
+use Rattle.listing.specs.Every.{every}
+use Rattle.listing.specs.EveryLaws.{every-append, every-reverse}
 use Rattle.patterns.specs.Pattern.{Patterns, patternFree}
 use Rattle.patterns.specs.Stream.{bridge, filled, hasLength, streamOf, joined, turned}
 use Rattle.patterns.specs.FreeLaws.{joined-free}

@@ -7,7 +7,7 @@ use Rattle.replies.specs.declared.Profile.{Profile}
 use Rattle.listing.specs.Listing.{allBelow}
 use Rattle.patterns.specs.Pattern.{Patterns}
 use Rattle.patterns.specs.Stream.{hasLength}
-use Rattle.code.specs.Code.{published, legal, LegalWord, N, index, word}
+use Rattle.code.specs.Code.{published, legal, LegalWord, N, index, word, OneWord}
 use Rattle.code.specs.Messages.{messageLength}
 
 -- The forbidden patterns.
@@ -38,6 +38,10 @@ indexFor p = index (p .q) (p .x)
 
 abbrev pub wordFor : Profile → ℕ → List ℕ
 wordFor p = word (p .q) (p .x) (p .m)
+
+-- There is exactly one legal word with i legal words before it, and it is the word of the index i.
+abbrev pub OneFor : Profile → ℕ → Type 0
+OneFor p = OneWord (p .q) (p .x) (p .m)
 
 -- The message length s.
 abbrev pub lengthOf : Profile → ℕ

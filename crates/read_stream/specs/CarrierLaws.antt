@@ -13,7 +13,8 @@ use Rattle.replies.specs.ReplyLaws.{both-done, test-failed}
 use Rattle.replies.specs.LowestLaws.{lowest-done, moved-done}
 use Rattle.replies.specs.Ranges.{InRange}
 use Rattle.numbers.specs.Step.{firstIndex}
-use Rattle.listing.specs.Every.{every, every-replicate}
+use Rattle.listing.specs.Every.{every}
+use Rattle.listing.specs.EveryLaws.{every-replicate}
 use Rattle.code.specs.Code.{LegalWord, index}
 use Rattle.code.specs.Laws.{zeros-only}
 use Rattle.profiles.specs.Profiles.{stride, streamLength, LegalFor, indexFor}

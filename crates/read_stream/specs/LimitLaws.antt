@@ -14,8 +14,8 @@ use Rattle.messages.specs.Carrying.{CarriesMessages}
 use Rattle.messages.specs.LengthLaws.{words-carry, length-below}
 use Rattle.replies.specs.declared.Profile.{Profile}
 use Rattle.listing.specs.Listing.{before}
-use Rattle.code.specs.Code.{LegalWord, N, index, word}
-use Rattle.code.specs.Laws.{OneWord, one-word-of-index, index-in-order, lower-index-first}
+use Rattle.code.specs.Code.{LegalWord, N, index, word, OneWord}
+use Rattle.code.specs.Laws.{one-word-of-index, index-in-order, lower-index-first}
 use Rattle.code.specs.MessageLaws.{carrying-before-tops}
 use Rattle.profiles.specs.Profiles.{wordCount, lengthOf, LegalFor, indexFor, wordFor}
 use Rattle.read_stream.specs.PowerLimbs.{powerLimbs, bit-inside, power-held}

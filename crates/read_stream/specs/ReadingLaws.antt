@@ -10,9 +10,9 @@ use Rattle.messages.specs.Carrying.{carryingRefusal, CarriesMessages}
 use Rattle.messages.specs.LengthLaws.{length-below}
 use Rattle.replies.specs.declared.Reply.{Reply}
 use Rattle.replies.specs.declared.Profile.{Profile}
-use Rattle.replies.specs.Replies.{done, orElse, roomRefusal}
+use Rattle.replies.specs.Replies.{done, orElse, roomRefusal, Comes}
 use Rattle.replies.specs.ReplyLaws.{decides, leaves, both-done, has-room}
-use Rattle.replies.specs.WritingLaws.{Comes, writing-refused, writing-done}
+use Rattle.replies.specs.WritingLaws.{writing-refused, writing-done}
 use Rattle.profiles.specs.Profiles.{lengthOf}
 use Rattle.bits.specs.Bits.{bytesFor, withBits}
 use Rattle.bits.specs.WithLaws.{length-packedInto, with-bits-front}

@@ -1,5 +1,6 @@
 -- Replies: the lowest number that applies to the whole input, with its first place; and what a call that writes leaves.
 -- The numbers are those of document 01.
+use mathlib.Core.Path.{_≡_}
 use mathlib.Core.Bool.{Bool, cond, _||_}
 use mathlib.Core.List.{List, _++_}
 use Prim.Native.Nat.{ℕ, zero, suc, _+_}
@@ -78,6 +79,10 @@ pub record OutcomeOf (A : Type 0) : Type 0 where
 -- Most calls answer with a reply and a count.
 abbrev pub Outcome : Type 0
 Outcome = OutcomeOf Written
+
+-- A call's answer and what it leaves in the lent list are those of an outcome.
+abbrev pub Comes : {A : Type 0} → OutcomeOf A → A → List ℕ → Type 0
+Comes outcome answer after = (answer ≡ outcome .answer) × (after ≡ outcome .lent)
 
 -- A refusal writes to no lent buffer and counts 0. Done writes exactly the content from the front and gives the count.
 unfoldable pub writingCounted : Reply → ℕ → List ℕ → List ℕ → Outcome

@@ -8,11 +8,7 @@ use borrow.Author.Tests.{eq-eqb, ne-eqb}
 use Rattle.replies.specs.declared.Reply.{Reply}
 use Rattle.replies.specs.declared.Written.{Written}
 use Rattle.replies.specs.NumberLaws.{picked}
-use Rattle.replies.specs.Replies.{done, isDone, Outcome, writingCounted, writing}
-
--- A call's answer and what it leaves in the lent list are those of an outcome.
-abbrev pub Comes : Outcome → Written → List ℕ → Type 0
-Comes outcome answer after = (answer ≡ outcome .answer) × (after ≡ outcome .lent)
+use Rattle.replies.specs.Replies.{done, isDone, Outcome, writingCounted, writing, Comes}
 
 -- Refused: nothing is written.
 pub writing-refused : (reply refusal : Reply) (count : ℕ) (content lent : List ℕ) → reply ≡ refusal → (reply .number ≡ 0 → ⊥)

@@ -14,8 +14,9 @@ use Rattle.replies.specs.Replies.{done, orElse}
 use Rattle.replies.specs.ReplyLaws.{both-done, none-refused, holds-nowhere}
 use Rattle.replies.specs.LowestLaws.{moved-of-done, moved-done}
 use Rattle.replies.specs.Ranges.{InRange}
-use Rattle.listing.specs.Every.{every, every-append, every-implies, every-replicate}
+use Rattle.listing.specs.Every.{every}
 use Rattle.listing.specs.Listing.{allBelow}
+use Rattle.listing.specs.EveryLaws.{every-append, every-implies, every-replicate}
 use Rattle.patterns.specs.Pattern.{Patterns}
 use Rattle.patterns.specs.Stream.{bridge, firstCell, lastCell, hasLength, streamOf}
 use Rattle.patterns.specs.StreamLaws.{stream-length}

@@ -8,7 +8,8 @@ use lib.ListN.{length, length-map, length-reverse}
 use borrow.Author.Tests.{eq-eqb}
 use Rattle.replies.specs.declared.Profile.{Profile}
 use Rattle.replies.specs.Ranges.{InRange}
-use Rattle.listing.specs.Every.{every, every-append, every-reverse, every-implies}
+use Rattle.listing.specs.Every.{every}
+use Rattle.listing.specs.EveryLaws.{every-append, every-reverse, every-implies}
 use Rattle.patterns.specs.Stream.{filled, joined, turned}
 use Rattle.patterns.specs.StreamLaws.{stream-joined, stream-turned}
 use Rattle.code.specs.Code.{legal}

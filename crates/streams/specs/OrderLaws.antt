@@ -10,8 +10,8 @@ use Rattle.replies.specs.declared.Reply.{Reply}
 use Rattle.replies.specs.declared.Profile.{Profile}
 use Rattle.replies.specs.Replies.{done, orElse}
 use Rattle.replies.specs.Ranges.{InRange}
-use Rattle.listing.specs.Every.{every-append}
 use Rattle.listing.specs.Listing.{allBelow}
+use Rattle.listing.specs.EveryLaws.{every-append}
 use Rattle.patterns.specs.OccursLaws.{front-free, back-free}
 use Rattle.code.specs.Code.{legal}
 use Rattle.profiles.specs.Profiles.{stride, streamLength, patternsOf}

@@ -84,8 +84,8 @@ module _ (p : Profile) (range : InRange p) (y : ℕ) (reach : Between 1 8 y) (re
   -- It is refused 3 rows behind the lesser reach, ..
   pub longer-reach-refused : p .x < y → p .x + 3 ≤ p .m → tableRefusal p (tableOf other ++ rest) ≡ refused 6 (p .x + 3)
   longer-reach-refused h l =
-      let parts = rows-part (p .q) (p .x) y (range .levels .least) h in
-      first-parted (p .x + 3) l (λ k j. sym (rows-agree (p .q) (p .x) y k (some-levels range) (omega arith) (omega arith))) (λ e. omega arith)
+      let parts = rows-part _ _ y (range .levels .least) h in
+      first-parted (p .x + 3) l (λ k j. sym (rows-agree _ _ y k (some-levels range) (omega arith) (omega arith))) (λ e. omega arith)
 
   pub shorter-reach-refused : y < p .x → y + 3 ≤ p .m → tableRefusal p (tableOf other ++ rest) ≡ refused 6 (y + 3)
   shorter-reach-refused h l =
@@ -96,7 +96,7 @@ module _ (p : Profile) (range : InRange p) (y : ℕ) (reach : Between 1 8 y) (re
   pub longer-reach-taken : p .x < y → p .m ≤ p .x + 2 → tableRefusal p (tableOf other ++ rest) ≡ done
   longer-reach-taken h l =
       table-right p (tableOf other ++ rest) (other-rows .long)
-      (λ i j. other-rows .rows i j ∙ sym (rows-agree (p .q) (p .x) y i (some-levels range) (omega arith) (omega arith)))
+      (λ i j. other-rows .rows i j ∙ sym (rows-agree _ _ y i (some-levels range) (omega arith) (omega arith)))
 
   pub shorter-reach-taken : y < p .x → p .m ≤ y + 2 → tableRefusal p (tableOf other ++ rest) ≡ done
   shorter-reach-taken h l =

@@ -9,9 +9,10 @@ use lib.Dec.{ltb, lit<}
 use lib.ListN.{getD}
 use Rattle.limbs.specs.Limbs.{limbsOf}
 use Rattle.listing.specs.Every.{every}
-use Rattle.listing.specs.Same.{same, same-equal}
+use Rattle.listing.specs.Same.{same}
 use Rattle.listing.specs.Listing.{levels}
 use Rattle.listing.specs.EachLevel.{each-level}
+use Rattle.listing.specs.SameLaws.{same-equal}
 use Rattle.code.specs.Code.{N}
 use Rattle.code.specs.Formulas.{withNext, countsDownFrom, countByRecursion}
 use Rattle.code.specs.Theorem1.{recursion-counts}

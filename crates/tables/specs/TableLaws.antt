@@ -77,4 +77,4 @@ pub row-stands : (p : Profile) (m n : ℕ) (table : List ℕ) → 1 < p .q → B
     → (i : ℕ) → i ≤ m → numberAt n table (10 * i) ≡ countFor p i
 row-stands p m n table l b few fits i h =
     let right = b .rows i h in
-    lowest-limbs n 10 table (10 * i) few (rw right (lt-of-le-of-lt (counts-rise (p .q) (p .x) i m l h) fits)) ∙ right
+    lowest-limbs n 10 table (10 * i) few (rw right (lt-of-le-of-lt (counts-rise _ _ i m l h) fits)) ∙ right

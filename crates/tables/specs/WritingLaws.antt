@@ -6,9 +6,9 @@ use lib.ListN.{length}
 use borrow.Author.Tests.{eq-eqb}
 use Rattle.replies.specs.declared.Profile.{Profile}
 use Rattle.replies.specs.declared.Reply.{Reply}
-use Rattle.replies.specs.Replies.{done, orElse, roomRefusal, Outcome, writing}
+use Rattle.replies.specs.Replies.{done, orElse, roomRefusal, Outcome, writing, Comes}
 use Rattle.replies.specs.ReplyLaws.{BothDone, both-done, has-room, room-enough}
-use Rattle.replies.specs.WritingLaws.{Comes, writing-refused, writing-done}
+use Rattle.replies.specs.WritingLaws.{writing-refused, writing-done}
 use Rattle.tables.specs.Tables.{tableLength, tableOf}
 use Rattle.tables.specs.Rows.{frontRows}
 use Rattle.tables.specs.RowLaws.{length-rows, table-front}

@@ -10,7 +10,8 @@ use borrow.Author.Tests.{ltb-true}
 use Rattle.replies.specs.declared.Profile.{Profile}
 use Rattle.text.specs.Text.{byte, bytes, decimal}
 use Rattle.text.specs.DecimalLaws.{decimal-length}
-use Rattle.listing.specs.Same.{same, same-as-itself, same-equal}
+use Rattle.listing.specs.Same.{same}
+use Rattle.listing.specs.SameLaws.{same-as-itself, same-equal}
 use Rattle.text.specs.Line.{profileText, lineOf, threeDigits, profileIn, isLineOf}
 use Rattle.text.specs.PartLaws.{inRow}
 use Rattle.text.specs.NumberLaws.{number-before, behind-both}

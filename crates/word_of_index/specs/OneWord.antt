@@ -1,38 +1,21 @@
 -- Where profile, table and room are in order, the word of an index is the one legal word with that many before it, and it is refused exactly
 -- if there is none.
 use mathlib.Core.Path.{_≡_, refl, ap}
-use mathlib.Core.List.{List, _++_}
+use mathlib.Core.List.{List}
 use Prim.Native.Nat.{ℕ, _≤_, _<_}
 use native.Mathlib.Omega.{arith}
 use lib.Dec.{leb}
-use lib.ListN.{length, drop}
+use lib.ListN.{length}
 use borrow.Author.Tests.{le-leb, lt-leb}
 use Rattle.limbs.specs.Limbs.{value}
 use Rattle.numbers.specs.declared.Index.{Index}
 use Rattle.replies.specs.declared.Profile.{Profile}
 use Rattle.replies.specs.declared.Reply.{Reply}
-use Rattle.replies.specs.Replies.{done, refused, refusedIf, profileRefusal, Outcome, writingCounted}
+use Rattle.replies.specs.Replies.{refusedIf, writingCounted}
 use Rattle.replies.specs.ReplyLaws.{leaves, room-enough}
-use Rattle.code.specs.Laws.{OneWord, one-word-of-index, index-below-N}
-use Rattle.profiles.specs.Profiles.{LegalFor, wordCount, indexFor, wordFor}
-use Rattle.tables.specs.Tables.{tableRefusal}
-use Rattle.word_of_index.specs.Spelling.{indexRefusal, spelling}
-
--- Profile, table and room are in order.
-pub record InOrder (p : Profile) (table lent : List ℕ) : Type 0 where
-  pub profile : profileRefusal p .number ≡ 0
-  pub belongs : tableRefusal p table .number ≡ 0
-  pub room : p .m ≤ length lent
-
--- There is a word: it is the one with that many before it, and it is written from the front.
-pub record Given (p : Profile) (i : ℕ) (lent : List ℕ) (outcome : Outcome) : Type 0 where
-  pub one : OneWord (p .q) (p .x) (p .m) i
-  pub written : outcome ≡ record { answer = record { reply = done; count = p .m }; lent = wordFor p i ++ drop (p .m) lent }
-
--- There is none: 12, and nothing is written.
-pub record NoWord (p : Profile) (i : ℕ) (lent : List ℕ) (outcome : Outcome) : Type 0 where
-  pub none : (w : List ℕ) → LegalFor p w → indexFor p w ≡ i → ⊥
-  pub refusal : outcome ≡ record { answer = record { reply = refused 12 0; count = 0 }; lent = lent }
+use Rattle.code.specs.Laws.{one-word-of-index, index-below-N}
+use Rattle.profiles.specs.Profiles.{wordCount}
+use Rattle.word_of_index.specs.Spelling.{indexRefusal, spelling, InOrder, Given, NoWord}
 
 module _ (p : Profile) (table : List ℕ) (i : Index) (lent : List ℕ) (order : InOrder p table lent) where
   decided : refusedIf (leb (wordCount p) (value (i .0))) 12 ≡ indexRefusal p table i lent
@@ -45,13 +28,13 @@ module _ (p : Profile) (table : List ℕ) (i : Index) (lent : List ℕ) (order :
   pub word-given : value (i .0) < wordCount p → Given p (value (i .0)) lent (spelling p table i lent)
   unfolding spelling writingCounted
   word-given l =
-      let one = one-word-of-index (p .q) (p .x) (p .m) (value (i .0)) l in
+      let one = one-word-of-index _ _ _ (value (i .0)) l in
       record { one = one; written = rw (← decided, lt-leb _ _ l, one .found .cells) }
 
   -- An index at or above N(m) has none, and it is refused.
   pub word-refused : wordCount p ≤ value (i .0) → NoWord p (value (i .0)) lent (spelling p table i lent)
   unfolding spelling writingCounted
   word-refused l = record {
-    none = λ w legal e. let below = index-below-N (p .q) (p .x) (p .m) w legal in omega arith;
+    none = λ w legal e. let below = index-below-N _ _ _ w legal in omega arith;
     refusal = rw (← decided, le-leb _ _ l);
   }

@@ -16,12 +16,12 @@ use Rattle.limbs.specs.OrderLaws.{Ordered, order-says}
 use Rattle.numbers.specs.declared.Index.{Index}
 use Rattle.replies.specs.declared.Reply.{Reply}
 use Rattle.replies.specs.declared.Profile.{Profile}
-use Rattle.replies.specs.Replies.{done}
+use Rattle.replies.specs.Replies.{done, Comes}
 use Rattle.replies.specs.ReplyLaws.{test-failed, both-done, profile-in-range, has-room}
 use Rattle.code.specs.Laws.{one-word-of-index}
 use Rattle.tables.specs.Tables.{Belongs}
 use Rattle.tables.specs.TableLaws.{table-belongs}
-use Rattle.replies.specs.WritingLaws.{Comes, writing-refused, writing-done}
+use Rattle.replies.specs.WritingLaws.{writing-refused, writing-done}
 use Rattle.replies.specs.Ranges.{InRange}
 use Rattle.profiles.specs.Profiles.{wordCount, wordFor, countFor}
 use Rattle.word_of_index.specs.Spelling.{indexRefusal, spelling}
@@ -84,6 +84,6 @@ pub spelling-done : (p : Profile) (table : List ℕ) (i : Index) (lent : List �
     → Comes (spelling p table i lent) (record { reply = done; count = p .m }) after
 unfolding spelling
 spelling-done p table i lent e z ten a =
-    let found = one-word-of-index (p .q) (p .x) (p .m) (value (i .0)) (accepted p table i lent e z .below) .found .cells in
+    let found = one-word-of-index _ _ _ (value (i .0)) (accepted p table i lent e z .below) .found .cells in
     let whole = whole-index (i .0) ten in
     writing-done _ _ _ _ lent e z (sym found) (rw found (rw (whole, zero-add) at a))

@@ -46,7 +46,7 @@ first-task p table rest r b all l h = record {
   few = le-refl 10;
   room = l;
   fits = rw (b .rows (p .m) (le-refl _)) at (numberAt-below 10 table (10 * p .m) all);
-  below = rw (open-legal (p .q) (p .x) (p .m) (r .levels .least)) h;
+  below = rw (open-legal _ _ _ (r .levels .least)) h;
 }
 
 -- The same task by k limbs in place of n.
@@ -86,7 +86,7 @@ module _ {p : Profile} {guard left : ℕ} {table : List ℕ} {n : ℕ} {rest : L
 
   -- The counts of fewer cells fit too, ..
   pub fewer-fit : (i : ℕ) → i ≤ left → countFor p i < base ^ n
-  fewer-fit i l = lt-of-le-of-lt (counts-rise (p .q) (p .x) i left least l) (task .fits)
+  fewer-fit i l = lt-of-le-of-lt (counts-rise _ _ i left least l) (task .fits)
 
   -- .. and stand in the n lowest limbs of their rows.
   pub row-right : (i : ℕ) → i ≤ left → numberAt n table (10 * i) ≡ countFor p i
@@ -97,7 +97,7 @@ module _ {p : Profile} {guard left : ℕ} {table : List ℕ} {n : ℕ} {rest : L
   narrowed all {k} e =
       let no-more : k ≤ n = rw e (omega (arith, used-length (take n (drop (10 * left) table)), length-take n (drop (10 * left) table))) in
       let holds : countFor p left < base ^ k = rw (e, ← row-right left (le-refl left)) (numberAt-below-used n table (10 * left) all) in
-      let small = lt-of-lt-of-le (lt-of-lt-of-le (task .below) (most-open (p .q) (p .x) guard left least)) (le-of-lt holds) in
+      let small = lt-of-lt-of-le (lt-of-lt-of-le (task .below) (most-open _ _ guard left least)) (le-of-lt holds) in
       let same = lowest-limbs k n rest 0 no-more small in
       record {
         task = record {
@@ -148,7 +148,7 @@ module _ {p : Profile} {guard left : ℕ} {table : List ℕ} {n : ℕ} {rest : L
         let goes : Goes (p .q - 1) i w level = rw e (times-go (p .q - 1) i w (weighs-some refl)) in
         let follows = level-left p guard left i level some goes (task .below) in
         let fits = fewer-fit (left - 1) (omega arith) in
-        let small = lt-of-lt-of-le follows (le-trans (most-open (p .q) (p .x) _ (left - 1) least) (le-of-lt fits)) in
+        let small = lt-of-lt-of-le follows (le-trans (most-open _ _ _ (left - 1) least) (le-of-lt fits)) in
         let held : after ≡ holding n (i - level * w) rest = rw (left-by-level (p .q - 1) i w level e) at f in
         let kept : numberAt n after 0 ≡ i - level * w = rw held (numberAt-holding-below n rest small) in
         record {

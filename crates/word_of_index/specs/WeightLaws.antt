@@ -47,13 +47,13 @@ module _ (p : Profile) where
   -- The weight of a cell in an open stretch is a row of the table.
   pub weight-open : (guard i : ℕ) → 1 < p .q → guard ≤ 1 → weightBehind p guard i ≡ countFor p i
   unfolding weightBehind
-  weight-open guard i l h = let none : guard - 1 ≡ 0 = omega arith in rw none (open-legal (p .q) (p .x) i l)
+  weight-open guard i l h = let none : guard - 1 ≡ 0 = omega arith in rw none (open-legal _ _ i l)
 
   -- In a guarded one it is an earlier row times a power of q - 1.
   pub weight-guarded : (guard i : ℕ) → 1 < p .q → guard ≤ p .x + 1
       → weightBehind p guard i ≡ countFor p (i - lowCells guard i) * (p .q - 1) ^ lowCells guard i
   unfolding weightBehind
-  weight-guarded = guarded-follow (p .q) (p .x)
+  weight-guarded = guarded-follow _ _
 
   -- It is not 0, and no more than the row.
   pub weight-positive : (guard i : ℕ) → 1 < p .q → guard ≤ p .x + 1 → 0 < weightBehind p guard i
@@ -63,7 +63,7 @@ module _ (p : Profile) where
 
   pub weight-within : (guard i : ℕ) → 1 < p .q → weightBehind p guard i ≤ countFor p i
   unfolding weightBehind
-  weight-within guard i l = most-open (p .q) (p .x) (guard - 1) i l
+  weight-within guard i l = most-open _ _ (guard - 1) i l
 
 -- The guard behind a top, and behind a level below it.
 pub guard-behind-top : (q x guard : ℕ) {level : ℕ} → level ≡ q - 1 → x + 1 ≡ guardAfter (published q x) guard level

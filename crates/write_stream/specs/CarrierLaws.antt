@@ -15,7 +15,8 @@ use Rattle.numbers.specs.Step.{indexOf}
 use Rattle.replies.specs.declared.Profile.{Profile}
 use Rattle.patterns.specs.Stream.{filled, hasLength, streamOf}
 use Rattle.patterns.specs.StreamLaws.{stream-length}
-use Rattle.listing.specs.Every.{every, every-implies}
+use Rattle.listing.specs.Every.{every}
+use Rattle.listing.specs.EveryLaws.{every-implies}
 use Rattle.code.specs.Laws.{one-word-of-index}
 use Rattle.code.specs.MessageLaws.{length-positive, carrying-before-tops}
 use Rattle.profiles.specs.Profiles.{patternsOf, wordCount, lengthOf, streamLength}
@@ -67,11 +68,11 @@ pub carries : {p : Profile} {table : List ℕ} {s : ℕ} → Ready p table s →
 carries {p} ready =
     let range = ready .carrying .inRange in
     let some = some-length p (ready .carrying .carries) in
-    let four = length-positive (p .q) (p .x) (p .m) .0 some in
+    let four = length-positive _ _ _ .0 some in
     rw (ready .length) (record {
       some = some;
       most = length-below range (ready .carrying .carries);
-      within = carrying-before-tops (p .q) (p .x) (p .m) (omega arith);
+      within = carrying-before-tops _ _ _ (omega arith);
       fits = words-fit range;
     })
 
@@ -81,7 +82,7 @@ index-below c l = omega (arith, c .within)
 
 -- So the word that carries it has m cells.
 pub length-carrier : {p : Profile} {s v : ℕ} → Carries p s → v < 2 ^ s → length (carrier p v) ≡ p .m
-length-carrier {p} c l = one-word-of-index (p .q) (p .x) (p .m) _ (index-below c l) .found .cells
+length-carrier {p} c l = one-word-of-index _ _ _ _ (index-below c l) .found .cells
 
 carriers-long : {p : Profile} {s : ℕ} (n at : ℕ) (bytes : List ℕ) → Carries p s
     → every (hasLength (p .m)) (map (carrier p) (messagesIn s n (drop at (bitsOfBytes bytes)))) ≡ true

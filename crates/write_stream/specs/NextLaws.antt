@@ -11,7 +11,8 @@ use Rattle.replies.specs.declared.Profile.{Profile}
 use Rattle.patterns.specs.Stream.{bridge, filled, streamOf, joined}
 use Rattle.patterns.specs.JoinLaws.{joined-empty-left}
 use Rattle.patterns.specs.StreamLaws.{stream-joined}
-use Rattle.listing.specs.Every.{every, every-append}
+use Rattle.listing.specs.Every.{every}
+use Rattle.listing.specs.EveryLaws.{every-append}
 use Rattle.profiles.specs.Profiles.{patternsOf, stride, streamLength}
 use Rattle.bits.specs.Bits.{bitsOfBytes, messagesIn}
 use Rattle.streams.specs.FitLaws.{length-and-bridge}

@@ -8,9 +8,9 @@ use lib.ListN.{length}
 use Rattle.messages.specs.Carrying.{carryingRefusal}
 use Rattle.replies.specs.declared.Reply.{Reply}
 use Rattle.replies.specs.declared.Profile.{Profile}
-use Rattle.replies.specs.Replies.{done}
+use Rattle.replies.specs.Replies.{done, Comes}
 use Rattle.replies.specs.ReplyLaws.{decides, leaves}
-use Rattle.replies.specs.WritingLaws.{Comes, writing-refused, writing-done}
+use Rattle.replies.specs.WritingLaws.{writing-refused, writing-done}
 use Rattle.patterns.specs.Stream.{streamOf}
 use Rattle.profiles.specs.Profiles.{patternsOf, streamLength}
 use Rattle.bits.specs.Bits.{bitsOfBytes}
