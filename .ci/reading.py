@@ -167,3 +167,20 @@ def rows(page, heading):
 
 def quoted(text):
     return re.findall(r"`([^`]+)`", text)
+
+
+@cache
+def lines_of_crates(root=ROOT):
+    """The lines of crates.txt: from each crate to the crates and libraries named for it."""
+    lines = (line.split("#")[0] for line in (root / "crates.txt").read_text().splitlines())
+    return {name.strip(): below.split() for name, below in (line.split(":") for line in lines if ":" in line)}
+
+
+def crates_under(name, root=ROOT):
+    """All crates and libraries under a crate: those of its line, those of their lines, and so on."""
+    found, left = set(), [name]
+    while left:
+        new = set(lines_of_crates(root).get(left.pop(), [])) - found
+        found |= new
+        left += new
+    return found
