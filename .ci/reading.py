@@ -103,6 +103,8 @@ def take_items(spec, lines, given=""):
 def spec_at(path):
     """A file of specs, read."""
     spec = Spec(path)
+    if not path.exists():
+        sys.exit(f"there is no {path.relative_to(ROOT)}")
     take_items(spec, [line for line in bare(path.read_text()).splitlines() if line.strip()])
     return spec
 
@@ -155,6 +157,25 @@ def functions():
         if len(HEAD.findall(text)) != len(re.findall(r"\bpub (?:extern \"C\" )?fn ", text)):
             sys.exit(f"{path.relative_to(ROOT)}: a `pub fn` whose contract the gate cannot read")
     return found
+
+
+def types_in(path, text):
+    """The structs and enums of this repository that Rust types in a source name."""
+    scope = source_scope(path)[1]
+    for place, name in re.findall(r"((?:\w+::)*)\b([A-Z]\w+)\b", text):
+        owner = (place.split("::")[:-1] or scope.get(name, ["crate"]))[0]
+        folder = path.parent if owner in ("crate", "super") else ROOT / "crates" / owner / "src"
+        found = [file for file in sorted(folder.glob("*.rt")) if re.search(rf"\b(struct|enum) {name}\b", bare(file.read_text(), "//"))]
+        found = [path] if path in found else found
+        if folder.is_dir() and len(found) != 1:
+            sys.exit(f"{path.relative_to(ROOT)}: it is not plain which type {name} is")
+        yield from ((file, name) for file in found)
+
+
+def types_held(path, name):
+    """The structs and enums that the fields of a struct in a source, or the variants of an enum, hold."""
+    text = re.search(rf"^(?:pub )?(?:struct|enum) {name}\b(\([^\n]*\);| \{{.*?^\}})", bare(path.read_text(), "//"), re.M | re.S)[1]
+    return set(types_in(path, re.sub(r"^ +[A-Z]\w*", "", text, flags=re.M)))
 
 
 def rows(page, heading):
