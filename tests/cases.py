@@ -1,4 +1,4 @@
-"""What the programs that write test cases share: the cases with their answers, lent tables, runs of cells, a digest of limbs.
+"""What the programs that write test cases share: the cases with their answers, profiles, lent tables, runs of cells, a digest of limbs.
 
 In a script only the numbers count; the words say what they are, and the first of them which call it is.
 """
@@ -31,10 +31,11 @@ NUMBERS = {
 }
 
 
-def case(text, *answer):
-    met[re.search("[a-z]+", text)[0]].add(answer[0])
+def case(text, reply, *shown):
+    """A case, and what is printed of its answer: the reply, then what else is shown."""
+    met[re.search("[a-z]+", text)[0]].add(reply.number)
     script.append(text)
-    answers.append("".join(f" {number}" for number in answer))
+    answers.append("".join(f" {number}" for number in (*reply, *shown)))
 
 
 def print_chosen():
@@ -52,15 +53,20 @@ def digest(numbers):
     return total
 
 
+def profile(p):
+    """A profile as it stands in a script."""
+    return " ".join(map(str, p))
+
+
 class Table:
     """A table that is built for a profile, with something added to one limb, lent over its first limbs."""
 
-    def __init__(self, q, m, x, row=0, limb=0, added=0, lent=None):
-        limbs = second.build(q, m, x, [0] * 1300)[1]
+    def __init__(self, p, row=0, limb=0, added=0, lent=None):
+        limbs = second.build(p, [0] * 1300).lent
         limbs[10 * row + limb] = (limbs[10 * row + limb] + added) % 2**64
-        lent = 10 * (m + 1) if lent is None else lent
+        lent = 10 * (p.m + 1) if lent is None else lent
         self.limbs = limbs[:lent]
-        self.text = f"table {q} {m} {x} damage {row} {limb} {added} lent {lent}"
+        self.text = f"table {profile(p)} damage {row} {limb} {added} lent {lent}"
 
 
 def runs(cells):

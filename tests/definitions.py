@@ -7,6 +7,8 @@ word is its place in the list. Prints a file of claims, one theorem each, that t
 import itertools
 import random
 
+from second import Profile
+
 HEADER = """\
 -- What an independent program found, claimed of the definitions.
 use mathlib.Core.Path.{_≡_, refl}
@@ -27,13 +29,13 @@ OPENED = (
 )
 
 
-def has_pattern(cells, q, x):
-    tops = [i for i, c in enumerate(cells) if c == q - 1]
-    return any(1 <= b - a - 1 <= x for a, b in zip(tops, tops[1:]))
+def has_pattern(cells, p):
+    tops = [i for i, c in enumerate(cells) if c == p.q - 1]
+    return any(1 <= b - a - 1 <= p.x for a, b in zip(tops, tops[1:]))
 
 
-def words(q, m, x):
-    return [w for w in itertools.product(range(q), repeat=m) if not has_pattern(w, q, x)]
+def words(p):
+    return [w for w in itertools.product(range(p.q), repeat=p.m) if not has_pattern(w, p)]
 
 
 def message_length(n):
@@ -43,11 +45,11 @@ def message_length(n):
     return s
 
 
-def bridged(parts, q, x):
+def bridged(parts, p):
     cells = []
     for part in parts:
         if cells and part:
-            cells += [q - 1 if cells[-1] == part[0] == q - 1 else 0] * x
+            cells += [p.q - 1 if cells[-1] == part[0] == p.q - 1 else 0] * p.x
         cells += part
     return cells
 
@@ -60,34 +62,43 @@ def truth(fact):
     return "true" if fact else "false"
 
 
-def claims():
-    draw = random.Random(1)
-    for q, m, x in itertools.product(range(2, 6), range(1, 6), (1, 2, 3, 5)):
-        if q**m > 700:
+def levels_and_reach(p):
+    """What the definitions take of a profile besides the length of a word."""
+    return f"{p.q} {p.x}"
+
+
+def claims_of_codes(draw):
+    for p in itertools.starmap(Profile, itertools.product(range(2, 6), range(1, 6), (1, 2, 3, 5))):
+        if p.q**p.m > 700:
             continue
-        found = words(q, m, x)
-        yield f"N {q} {x} {m} ≡ {len(found)}"
-        yield f"countByRecursion {q} {x} {m} ≡ {len(found)}"
-        yield f"messageLength {q} {x} {m} ≡ {message_length(len(found))}"
+        found, of = words(p), levels_and_reach(p)
+        yield f"N {of} {p.m} ≡ {len(found)}"
+        yield f"countByRecursion {of} {p.m} ≡ {len(found)}"
+        yield f"messageLength {of} {p.m} ≡ {message_length(len(found))}"
         for i in draw.sample(range(len(found)), min(3, len(found))):
-            yield f"index {q} {x} {shown(found[i])} ≡ {i}"
-            yield f"indexByWeights {q} {x} {shown(found[i])} ≡ {i}"
-            yield f"word {q} {x} {m} {i} ≡ {shown(found[i])}"
+            yield f"index {of} {shown(found[i])} ≡ {i}"
+            yield f"indexByWeights {of} {shown(found[i])} ≡ {i}"
+            yield f"word {of} {p.m} {i} ≡ {shown(found[i])}"
+
+
+def claims_of_cells(draw):
     for _ in range(150):
-        q, x = draw.randrange(2, 5), draw.randrange(1, 4)
-        cells = [draw.choice((q - 1, draw.randrange(q))) for _ in range(draw.randrange(1, 10))]
-        legal = truth(not has_pattern(cells, q, x))
-        yield f"legal {q} {x} {shown(cells)} ≡ {legal}"
-        yield f"walk (published {q} {x}) 0 {shown(cells)} ≡ {legal}"
-        m = draw.randrange(1, 4)
-        parts = [[draw.choice((0, q - 1)) for _ in range(m)] for _ in range(draw.randrange(0, 5))]
-        stream = bridged(parts, q, x)
-        listed = "(" + " ∷ ".join([shown(p) for p in parts] + ["[]"]) + ")"
-        yield f"streamOf (published {q} {x}) {listed} ≡ {shown(stream)}"
-        yield f"joined (published {q} {x}) {shown(stream)} {shown(cells)} ≡ {shown(bridged([stream, cells], q, x))}"
+        p = Profile(q=draw.randrange(2, 5), x=draw.randrange(1, 4), m=1)
+        of, top = levels_and_reach(p), p.q - 1
+        cells = [draw.choice((top, draw.randrange(p.q))) for _ in range(draw.randrange(1, 10))]
+        legal = truth(not has_pattern(cells, p))
+        yield f"legal {of} {shown(cells)} ≡ {legal}"
+        yield f"walk (published {of}) 0 {shown(cells)} ≡ {legal}"
+        length = draw.randrange(1, 4)
+        parts = [[draw.choice((0, top)) for _ in range(length)] for _ in range(draw.randrange(0, 5))]
+        stream = bridged(parts, p)
+        listed = "(" + " ∷ ".join([shown(part) for part in parts] + ["[]"]) + ")"
+        yield f"streamOf (published {of}) {listed} ≡ {shown(stream)}"
+        yield f"joined (published {of}) {shown(stream)} {shown(cells)} ≡ {shown(bridged([stream, cells], p))}"
         yield f"turned {shown(stream)} ≡ {shown(stream[::-1])}"
 
 
 print(HEADER)
-for number, claim in enumerate(claims()):
+draw = random.Random(1)
+for number, claim in enumerate(itertools.chain(claims_of_codes(draw), claims_of_cells(draw))):
     print(f"claim-{number} : {claim}\nunfolding {OPENED}\nclaim-{number} = refl\n")

@@ -8,39 +8,35 @@ import sys
 from pathlib import Path
 
 import second
+from second import Profile
 
 TAKES = {
     "take1": b"Scene 12 take 1, boom and two radio mics, rain on the roof, keep it as wild track",
     "take2": b"Scene 12 take 2, boom and two radio mics, rain is over, a lorry passes at the end",
 }
-SHORT, LONG = (4, 14, 1), (4, 14, 2)
+SHORT, LONG = Profile(4, 14, 1), Profile(4, 14, 2)
 
 
-def table(q, m, x):
-    return second.table_of(q, x, m)
-
-
-def stream(profile, data, bits):
-    reply, cells = second.write(*profile, table(*profile), data, bits, [0] * 65536)
-    assert reply[0] == 0, reply
-    return cells[: reply[2]]
+def stream(p, data, bits):
+    written = second.write(p, second.table_of(p), data, bits, [0] * 65536)
+    assert written.reply == second.DONE, written.reply
+    return written.lent[: written.count]
 
 
 def damaged(cells):
     """The cells with the first change of one cell of word 5, inside the word, to top that makes a forbidden pattern."""
-    q, m, x = SHORT
-    start = 5 * (m + x)
-    for place in range(start + 1, start + m - 1):
-        changed = cells[:place] + [q - 1] + cells[place + 1 :]
-        if second.read(q, m, x, table(q, m, x), changed, [0] * 20448)[0][0] == 11:
+    p = SHORT
+    start = 5 * (p.m + p.x)
+    for place in range(start + 1, start + p.m - 1):
+        changed = cells[:place] + [p.q - 1] + cells[place + 1 :]
+        if second.read(p, second.table_of(p), changed, [0] * 20448).reply.number == 11:
             return changed
     raise AssertionError("no change of one cell makes a pattern")
 
 
 def cut(data, bits):
     """The first so many bits, with zero bits to the end of the last byte."""
-    text = second.text_of(data, 8)[:bits]
-    return bytes(int(text[i : i + 8].ljust(8, "0"), 2) for i in range(0, bits, 8))
+    return bytes(second.bytes_of(second.text_of(data, 8)[:bits]))
 
 
 def files():
@@ -49,12 +45,11 @@ def files():
         assert len(text) == 81
         found[f"{name}.bits"], found[f"{name}.cells"] = text, stream(SHORT, text, 648)
     found["damaged.cells"] = damaged(found["take1.cells"])
-    q, m, x = LONG
-    bits = 648 - 648 % second.message_length(q, x, m)
+    bits = 648 - 648 % second.message_length(LONG)
     found["long-reach.cells"] = stream(LONG, cut(TAKES["take2"], bits), bits)
-    for name, profile in (("long-reach", LONG), ("reach1", SHORT)):
-        found[f"{name}.table"] = b"".join(limb.to_bytes(8, "little") for limb in table(*profile))
-    found["word.cells"] = second.word_of(4, 1, 5, 108)
+    for name, p in (("long-reach", LONG), ("reach1", SHORT)):
+        found[f"{name}.table"] = b"".join(limb.to_bytes(8, "little") for limb in second.table_of(p))
+    found["word.cells"] = second.word_of(Profile(4, 5, 1), 108)
     return found
 
 

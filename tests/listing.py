@@ -11,6 +11,7 @@ from random import Random
 
 import second
 from cases import CELL_MARK, answers, case, digest, print_chosen, runs
+from second import Profile, line_of
 
 random = Random(23)
 ROOM, SHORT = 262144, 200
@@ -22,29 +23,25 @@ def listing(data, room=ROOM, shown=None):
     """A case; the lent text is shown to a hundred bytes behind what is printed, as far as it goes."""
     text = second.printed(data)
     shown = min(room, len(text) + 100) if shown is None else shown
-    answer, lent = second.list_code(data, bytes([CELL_MARK]) * room)
-    case(f"list room {room} shown {shown} {runs(data)}", *answer, digest(lent[:shown]))
-    if 0 < answer[2] < SHORT:
+    answer = second.list_code(data, bytes([CELL_MARK]) * room)
+    case(f"list room {room} shown {shown} {runs(data)}", answer.reply, answer.count, digest(answer.lent[:shown]))
+    if 0 < answer.count < SHORT:
         answers.append(text.removesuffix("\n"))
-
-
-def line(q, m, x):
-    return f"{q} {m} {x}\n".encode()
 
 
 def every_code():
     """Every profile whose code is listed, and each next longer word."""
     for q, x in product(range(2, 33), range(1, 9)):
-        m = 1
-        while second.count(q, x, m) <= 4096:
-            listing(line(q, m, x))
-            m += 1
-        listing(line(q, m, x))
+        p = Profile(q, 1, x)
+        while second.count(p) <= 4096:
+            listing(line_of(p))
+            p = second.with_length(p, p.m + 1)
+        listing(line_of(p))
 
 
 def out_of_range():
-    for q, m, x in product((0, 1, 2, 32, 33, 100, 999), (0, 1, 128, 129, 999), (0, 1, 8, 9, 10, 999)):
-        listing(line(q, m, x))
+    for numbers in product((0, 1, 2, 32, 33, 100, 999), (0, 1, 128, 129, 999), (0, 1, 8, 9, 10, 999)):
+        listing(line_of(Profile(*numbers)))
 
 
 def damaged():

@@ -10,6 +10,7 @@ from errno import EEXIST, EISDIR, ENAMETOOLONG, ENOENT
 from pathlib import Path
 
 import second
+from second import Profile
 
 HELP = (Path(__file__).parent.parent / "crates/remi/stdout").read_text()
 SUBCOMMANDS = {name: words.split() for name, words in re.findall(r"^  remi (\w+) +((?:\[?[A-Z]+\]? )*) *[a-z]", HELP, re.M)}
@@ -51,10 +52,10 @@ class Refused(Exception):
 
 def settle(reply, told=""):
     """Goes on if a call is done; else its number and place are told, and what else there is to tell."""
-    number, place = reply[:2]
-    where = f" ({PLACES[number]} {place})" if number in PLACES else ""
+    number = reply.number
+    where = f" ({PLACES[number]} {reply.place})" if number in PLACES else ""
     if number:
-        raise Refused(f"refused {number} at {place}: {MEANINGS[number]}{where}\n{told}")
+        raise Refused(f"refused {number} at {reply.place}: {MEANINGS[number]}{where}\n{told}")
 
 
 class Disk:
@@ -130,9 +131,10 @@ def given(synopsis, words):
             row = number(words[1])
             found[what], words = None, words[2:]
         elif what == "PROFILE":
-            found[what], words = tuple(map(number, words[:3])), words[3:]
-            if len(found[what]) < 3:
+            numbers, words = [number(word) for word in words[:3]], words[3:]
+            if len(numbers) < 3:
                 raise Wrong
+            found[what] = Profile(*numbers)
         elif words:
             found[what.strip("[]")] = number(words[0]) if what.strip("[]") in NUMBERS else words[0]
             words = words[1:]
@@ -141,15 +143,15 @@ def given(synopsis, words):
     if words:
         raise Wrong
     if row is not None:
-        settle(reply := second.published(row))
-        q, x, m, _ = reply[2:]
-        found["PROFILE"] = q, m, x
+        published = second.published(row)
+        settle(published.reply)
+        found["PROFILE"] = published.profile
     return found
 
 
 def about_length(reply, name, count, most, what):
     more = "more than " if count > most else ""
-    return f"  {name}: {more}{min(count, most)} {what}\n" if reply[0] == 7 else ""
+    return f"  {name}: {more}{min(count, most)} {what}\n" if reply.number == 7 else ""
 
 
 def around(name, cells, place):
@@ -159,20 +161,20 @@ def around(name, cells, place):
     return f"  cells {near[0]} to {near[-1]} of {name}: {levels}\n"
 
 
-def spot(m, x, place):
+def spot(p, place):
     """Which word or bridge of a stream a place lies in."""
-    word, cell = divmod(place, m + x)
+    word, cell = divmod(place, p.m + p.x)
     start = place - cell
-    if cell < m:
-        return f"  cell {cell} of word {word}, which is cells {start} to {start + m - 1}\n"
-    return f"  cell {cell - m} of the bridge behind word {word}, which is cells {start + m} to {start + m + x - 1}\n"
+    if cell < p.m:
+        return f"  cell {cell} of word {word}, which is cells {start} to {start + p.m - 1}\n"
+    return f"  cell {cell - p.m} of the bridge behind word {word}, which is cells {start + p.m} to {start + p.m + p.x - 1}\n"
 
 
 def about_cells(reply, name, cells, profile=None):
     """What is told of refused cells: their number, or those around the place; with a profile they are a stream."""
-    if reply[0] < 10:
+    if reply.number < 10:
         return about_length(reply, name, len(cells), MOST_CELLS, "cells")
-    return around(name, cells, reply[1]) + (spot(*profile[1:], reply[1]) if profile else "")
+    return around(name, cells, reply.place) + (spot(profile, reply.place) if profile else "")
 
 
 class Run:
@@ -188,8 +190,7 @@ class Run:
     def lent(self):
         """The table that -t names, or one that is built; of a profile out of range there is none."""
         if "t" not in self.options:
-            q, m, x = self.profile
-            return [] if second.refused_profile(q, m, x) else second.table_of(q, x, m)
+            return [] if second.refused_profile(self.profile) else second.table_of(self.profile)
         data = self.disk.load(self.options["t"])
         return [int.from_bytes(data[i : i + 8], "little") for i in range(0, len(data) - 7, 8)]
 
@@ -202,18 +203,18 @@ class Run:
 
     def read(self):
         name, cells = self.load()
-        reply, bits = second.read(*self.profile, self.lent(), cells, [0] * MOST_BYTES)
+        reply, bits, data = second.read(self.profile, self.lent(), cells, [0] * MOST_BYTES)
         settle(reply, about_cells(reply, name, cells, self.profile))
-        return self.done(f"{len(cells)} cells read as {reply[2]} bits", "BITS", bits[: -(-reply[2] // 8)])
+        return self.done(f"{len(cells)} cells read as {bits} bits", "BITS", data[: -(-bits // 8)])
 
     def write(self):
         (name, data), table = self.load("BITS"), self.lent()
         held = 8 * len(data)
-        over = held % (second.rate(*self.profile, table, 1)[2] or 1)
+        over = held % (second.rate(self.profile, table, 1).bits or 1)
         bits = self.options.get("n", held - over if over < 8 else held)
-        reply, cells = second.write(*self.profile, table, data, bits, [0] * MOST_CELLS)
+        reply, count, cells = second.write(self.profile, table, data, bits, [0] * MOST_CELLS)
         settle(reply, about_length(reply, name, len(data), MOST_BYTES, "bytes"))
-        return self.done(f"{bits} bits written as {reply[2]} cells", "CELLS", cells[: reply[2]])
+        return self.done(f"{bits} bits written as {count} cells", "CELLS", cells[:count])
 
     def find(self):
         name, cells = self.load()
@@ -224,55 +225,57 @@ class Run:
     def join(self):
         streams = [self.load("FIRST"), self.load("SECOND")]
         first, then = (cells for _, cells in streams)
-        reply, joined = second.join(*self.profile, first, then, [0] * (2 * MOST_CELLS))
-        late = reply[1] >= len(first)
-        local = [reply[0], reply[1] - len(first) if late else reply[1]]
-        refused = streams if reply[0] < 10 else [streams[late]]
+        reply, count, joined = second.join(self.profile, first, then, [0] * (2 * MOST_CELLS))
+        late = reply.place >= len(first)
+        local = reply._replace(place=reply.place - len(first)) if late else reply
+        refused = streams if reply.number < 10 else [streams[late]]
         settle(reply, "".join(about_cells(local, *stream, self.profile) for stream in refused))
-        return self.done(f"{len(first)} cells and {len(then)} cells joined as {reply[2]} cells", "JOINED", joined[: reply[2]])
+        return self.done(f"{len(first)} cells and {len(then)} cells joined as {count} cells", "JOINED", joined[:count])
 
     def turn(self):
         name, cells = self.load()
-        reply, turned = second.turn(*self.profile, cells, [0] * MOST_CELLS)
+        reply, count, turned = second.turn(self.profile, cells, [0] * MOST_CELLS)
         settle(reply, about_cells(reply, name, cells, self.profile))
-        return self.done(f"{reply[2]} cells turned", "TURNED", turned[: reply[2]])
+        return self.done(f"{count} cells turned", "TURNED", turned[:count])
 
     def index(self):
         name, cells = self.load()
-        reply = second.index(*self.profile, self.lent(), cells)
+        reply, index = second.index(self.profile, self.lent(), cells)
         settle(reply, about_cells(reply, name, cells))
-        return self.done(f"index {second.number_of(reply[2:])}")
+        return self.done(f"index {index}")
 
     def word(self):
         limbs = second.limbs_of(min(self.words["INDEX"], 2**640 - 1))
-        reply, cells = second.word(*self.profile, self.lent(), limbs, [0] * 128)
+        reply, count, cells = second.word(self.profile, self.lent(), limbs, [0] * 128)
         settle(reply)
-        return self.done(f"word {','.join(map(str, cells[: reply[2]]))}", "CELLS", cells[: reply[2]])
+        return self.done(f"word {','.join(map(str, cells[:count]))}", "CELLS", cells[:count])
 
     def table(self):
-        q, m, x = self.profile
-        limbs = self.lent()
-        settle(second.refused_profile(q, m, x) or second.refused_table(q, m, x, limbs) or second.DONE)
+        m, limbs = self.profile.m, self.lent()
+        settle(second.refused_profile(self.profile) or second.refused_table(self.profile, limbs) or second.DONE)
         if "t" in self.options:
             return self.done("the table belongs")
         if "TABLE" in self.words:
             return self.done(f"{m + 1} rows", "TABLE", b"".join(limb.to_bytes(8, "little") for limb in limbs))
-        return self.done(f"{m + 1} rows, N(0) to N({m})") + "".join(f"N({i}) = {second.count(q, x, i)}\n" for i in range(m + 1))
+        counts = [second.count(second.with_length(self.profile, i)) for i in range(m + 1)]
+        return self.done(f"{m + 1} rows, N(0) to N({m})") + "".join(f"N({i}) = {n}\n" for i, n in enumerate(counts))
 
     def rate(self):
-        settle(reply := second.rate(*self.profile, self.lent(), self.words["WORDS"]))
-        return self.done(f"{self.words['WORDS']} words carry {reply[2]} bits in {reply[3]} cells")
+        reply, bits, cells = second.rate(self.profile, self.lent(), self.words["WORDS"])
+        settle(reply)
+        return self.done(f"{self.words['WORDS']} words carry {bits} bits in {cells} cells")
 
     def profiles(self):
         told = ""
         for row in [self.words["ROW"]] if "ROW" in self.words else range(40):
-            settle(reply := second.published(row))
-            told += "row {}: q {}, m {}, x {}, s {}\n".format(row, *(reply[i] for i in (2, 4, 3, 5)))
+            reply, p, s = second.published(row)
+            settle(reply)
+            told += f"row {row}: q {p.q}, m {p.m}, x {p.x}, s {s}\n"
         return told
 
     def list(self):
-        settle(second.refused_profile(*self.profile) or second.DONE)
-        return second.printed("{} {} {}\n".format(*self.profile).encode())
+        settle(second.refused_profile(self.profile) or second.DONE)
+        return second.printed(second.line_of(self.profile))
 
     def help(self):
         return HELP

@@ -3,15 +3,61 @@
 It shares no code with the crates. A word is legal if no forbidden pattern is found in it; counts, indices and words come from listing
 where there are few words. Where there are many, counts come from the printed recursion, an index from the printed weights, and a word
 from the counts of the words that begin as it does. Bits are text of the digits 0 and 1. Of a stream's cells all faults are gathered, and the
-least is given. Each answer is a list: the number, the place, and what else the call gives.
+least is given. Each answer has its reply first; then what else the call gives, and what it leaves in the output that it was lent.
 """
 
 import re
 from functools import cache
 from itertools import product
+from typing import NamedTuple
 
 LISTABLE = 4096
-DONE = [0, 0]
+
+
+class Profile(NamedTuple):
+    """Levels, word length, reach."""
+
+    q: int
+    m: int
+    x: int
+
+
+class Reply(NamedTuple):
+    """Why a call is refused, and where; of replies the least is the one to give."""
+
+    number: int
+    place: int
+
+
+DONE = Reply(0, 0)
+
+
+def refused(number, place=0):
+    return Reply(number, place)
+
+
+class Written(NamedTuple):
+    reply: Reply
+    count: int
+    lent: list
+
+
+class Indexed(NamedTuple):
+    reply: Reply
+    index: int
+
+
+class Published(NamedTuple):
+    reply: Reply
+    profile: Profile
+    s: int
+
+
+class Rated(NamedTuple):
+    reply: Reply
+    bits: int
+    cells: int
+
 
 PUBLISHED = {
     4: ("14/27 26/50 49/95 77/149 97/188", "20/38 38/72 57/108 76/144 96/182"),
@@ -19,16 +65,17 @@ PUBLISHED = {
     16: ("18/71 27/107 45/179 66/263 111/443", "24/95 34/135 51/203 73/291 100/399"),
     32: ("19/94 29/144 49/244 70/349 117/584", "25/124 36/179 56/279 77/384 108/539"),
 }
-ROWS = [(q, x, *map(int, row.split("/"))) for x in (1, 2) for q, rows in PUBLISHED.items() for row in rows[x - 1].split()]
+LENGTHS = [(q, x, *map(int, row.split("/"))) for x in (1, 2) for q, rows in PUBLISHED.items() for row in rows[x - 1].split()]
+ROWS = [Published(DONE, Profile(q, m, x), s) for q, x, m, s in LENGTHS]
 
 
-def first_pattern(q, x, cells):
+def first_pattern(p, cells):
     """The place of the first top of the leftmost forbidden pattern, or None."""
-    top = q - 1
+    top = p.q - 1
     for place, cell in enumerate(cells):
         if cell != top:
             continue
-        for closing in range(place + 1, min(place + x + 2, len(cells))):
+        for closing in range(place + 1, min(place + p.x + 2, len(cells))):
             if cells[closing] >= top:
                 if closing > place + 1 and cells[closing] == top:
                     return place
@@ -37,61 +84,69 @@ def first_pattern(q, x, cells):
 
 
 @cache
-def listed(q, x, m):
+def listed(p):
     """The legal words of m cells in level order."""
-    return [word for word in product(range(q), repeat=m) if first_pattern(q, x, word) is None]
+    return [word for word in product(range(p.q), repeat=p.m) if first_pattern(p, word) is None]
+
+
+def with_length(p, m):
+    """The profile with words of another length."""
+    return p._replace(m=m)
 
 
 @cache
-def count(q, x, m):
-    if q**m <= LISTABLE:
-        return len(listed(q, x, m))
-    last = (q - 1) ** (x + 1) * count(q, x, m - x - 2) if m - x - 2 >= 0 else (q - 1) ** (m - 1)
-    return q * count(q, x, m - 1) - (q - 1) * count(q, x, m - 2) + last
+def count(p):
+    """N(m), the number of legal words."""
+    if p.q**p.m <= LISTABLE:
+        return len(listed(p))
+    one, two, last = (with_length(p, p.m - less) for less in (1, 2, p.x + 2))
+    ending = (p.q - 1) ** (p.x + 1) * count(last) if last.m >= 0 else (p.q - 1) ** one.m
+    return p.q * count(one) - (p.q - 1) * count(two) + ending
 
 
-def weight(q, x, distance, i):
+def weight(p, distance, i):
     """The weight of a cell with i cells to its right and the nearest top `distance` to its left (0: none)."""
-    g = x - distance + 1 if 1 <= distance <= x else 0
-    return (q - 1) ** g * count(q, x, i - g) if g <= i else (q - 1) ** i
+    g = p.x - distance + 1 if 1 <= distance <= p.x else 0
+    return (p.q - 1) ** g * count(with_length(p, i - g)) if g <= i else (p.q - 1) ** i
 
 
-def index_of(q, x, word):
-    if q ** len(word) <= LISTABLE:
-        return listed(q, x, len(word)).index(tuple(word))
+def index_of(p, word):
+    if p.q**p.m <= LISTABLE:
+        return listed(p).index(tuple(word))
     total, last_top = 0, None
     for place, level in enumerate(word):
-        total += level * weight(q, x, 0 if last_top is None else place - last_top, len(word) - 1 - place)
-        if level == q - 1:
+        total += level * weight(p, 0 if last_top is None else place - last_top, p.m - 1 - place)
+        if level == p.q - 1:
             last_top = place
     return total
 
 
 @cache
-def endings(q, x, since_top, left):
-    """How many ways there are to go on for `left` cells, `since_top` cells behind a top (None: none near)."""
-    if left == 0:
+def endings(p, since_top):
+    """How many ways there are to go on for m cells, `since_top` cells behind a top (None: none near)."""
+    if p.m == 0:
         return 1
-    total = (q - 1) * endings(q, x, None if since_top is None or since_top >= x else since_top + 1, left - 1)
+    fewer = with_length(p, p.m - 1)
+    total = (p.q - 1) * endings(fewer, None if since_top is None or since_top >= p.x else since_top + 1)
     if since_top is None or since_top == 0:
-        total += endings(q, x, 0, left - 1)
+        total += endings(fewer, 0)
     return total
 
 
-def word_of(q, x, m, index):
+def word_of(p, index):
     """The legal word with so many before it."""
-    if q**m <= LISTABLE:
-        return list(listed(q, x, m)[index])
+    if p.q**p.m <= LISTABLE:
+        return list(listed(p)[index])
     word, since_top = [], None
-    while len(word) < m:
-        for level in range(q):
-            if level == q - 1:
+    while len(word) < p.m:
+        for level in range(p.q):
+            if level == p.q - 1:
                 after = 0
             else:
-                after = None if since_top is None or since_top >= x else since_top + 1
-            if level == q - 1 and since_top not in (None, 0):
+                after = None if since_top is None or since_top >= p.x else since_top + 1
+            if level == p.q - 1 and since_top not in (None, 0):
                 raise AssertionError("no word has this index")
-            ways = endings(q, x, after, m - len(word) - 1)
+            ways = endings(with_length(p, p.m - len(word) - 1), after)
             if index < ways:
                 break
             index -= ways
@@ -100,8 +155,8 @@ def word_of(q, x, m, index):
     return word
 
 
-def message_length(q, x, m):
-    carrying = count(q, x, m) - 2
+def message_length(p):
+    carrying = count(p) - 2
     return 0 if carrying < 1 else carrying.bit_length() - 1
 
 
@@ -113,197 +168,198 @@ def number_of(limbs):
     return sum(limb << 64 * i for i, limb in enumerate(limbs))
 
 
-def table_of(q, x, m):
-    return [limb for i in range(m + 1) for limb in limbs_of(count(q, x, i))]
+def table_of(p):
+    return [limb for i in range(p.m + 1) for limb in limbs_of(count(with_length(p, i)))]
 
 
-def refused_profile(q, m, x):
-    if not 2 <= q <= 32:
-        return [1, 0]
-    if not 1 <= m <= 128:
-        return [2, 0]
-    if not 1 <= x <= 8:
-        return [3, 0]
+def refused_profile(p):
+    if not 2 <= p.q <= 32:
+        return refused(1)
+    if not 1 <= p.m <= 128:
+        return refused(2)
+    if not 1 <= p.x <= 8:
+        return refused(3)
     return None
 
 
-def refused_table(q, m, x, table):
-    if len(table) < 10 * (m + 1):
-        return [5, 0]
-    for i in range(m + 1):
-        if table[10 * i : 10 * i + 10] != limbs_of(count(q, x, i)):
-            return [6, i]
+def refused_table(p, table):
+    if len(table) < 10 * (p.m + 1):
+        return refused(5)
+    for i in range(p.m + 1):
+        if table[10 * i : 10 * i + 10] != limbs_of(count(with_length(p, i))):
+            return refused(6, i)
     return None
 
 
-def refused_message_call(q, m, x, table):
-    return refused_profile(q, m, x) or ([4, 0] if message_length(q, x, m) == 0 else None) or refused_table(q, m, x, table)
+def refused_message_call(p, table):
+    return refused_profile(p) or (refused(4) if message_length(p) == 0 else None) or refused_table(p, table)
 
 
-def refused_cells(q, x, cells):
+def refused_cells(p, cells):
     for place, cell in enumerate(cells):
-        if cell >= q:
-            return [10, place]
-    place = first_pattern(q, x, cells)
-    return None if place is None else [11, place]
+        if cell >= p.q:
+            return refused(10, place)
+    place = first_pattern(p, cells)
+    return None if place is None else refused(11, place)
 
 
 def written(refusal, answer, lent):
-    """Number, place, count, and the lent list afterwards."""
     if refusal:
-        return [*refusal, 0], lent
-    return [*DONE, len(answer)], answer + lent[len(answer) :]
+        return Written(refusal, 0, lent)
+    return Written(DONE, len(answer), answer + lent[len(answer) :])
 
 
-def build(q, m, x, lent):
-    refusal = refused_profile(q, m, x) or ([9, 0] if len(lent) < 10 * (m + 1) else None)
-    return written(refusal, [] if refusal else table_of(q, x, m), lent)
+def build(p, lent):
+    refusal = refused_profile(p) or (refused(9) if len(lent) < 10 * (p.m + 1) else None)
+    return written(refusal, [] if refusal else table_of(p), lent)
 
 
 def shipped(m, lent):
-    refusal = [2, 0] if not 1 <= m <= 128 else [9, 0] if len(lent) < 10 * (m + 1) else None
-    return written(refusal, [] if refusal else table_of(4, 1, m), lent)
+    return build(Profile(4, m, 1), lent)
 
 
-def index(q, m, x, table, cells):
-    refusal = (
-        refused_profile(q, m, x)
-        or refused_table(q, m, x, table)
-        or ([7, 0] if len(cells) != m else None)
-        or refused_cells(q, x, cells)
-    )
-    return [*refusal, *limbs_of(0)] if refusal else [*DONE, *limbs_of(index_of(q, x, cells))]
+def index(p, table, cells):
+    refusal = refused_profile(p) or refused_table(p, table) or (refused(7) if len(cells) != p.m else None) or refused_cells(p, cells)
+    return Indexed(refusal, 0) if refusal else Indexed(DONE, index_of(p, cells))
 
 
-def word(q, m, x, table, limbs, lent):
-    refusal = refused_profile(q, m, x) or refused_table(q, m, x, table) or ([9, 0] if len(lent) < m else None)
-    refusal = refusal or ([12, 0] if number_of(limbs) >= count(q, x, m) else None)
-    return written(refusal, [] if refusal else word_of(q, x, m, number_of(limbs)), lent)
+def word(p, table, limbs, lent):
+    refusal = refused_profile(p) or refused_table(p, table) or (refused(9) if len(lent) < p.m else None)
+    refusal = refusal or (refused(12) if number_of(limbs) >= count(p) else None)
+    return written(refusal, [] if refusal else word_of(p, number_of(limbs)), lent)
 
 
 def find(q, x, cells):
-    if not 2 <= q <= 32:
-        return [1, 0]
-    if not 1 <= x <= 8:
-        return [3, 0]
-    if len(cells) > 65536:
-        return [7, 0]
-    return refused_cells(q, x, cells) or DONE
+    p = Profile(q, 1, x)  # a length in range: the finder asks for none
+    return refused_profile(p) or (refused(7) if len(cells) > 65536 else None) or refused_cells(p, cells) or DONE
 
 
 def published(row):
-    return [*DONE, *ROWS[row]] if row < len(ROWS) else [12, 0, 0, 0, 0, 0]
+    return ROWS[row] if row < len(ROWS) else Published(refused(12), Profile(0, 0, 0), 0)
 
 
-def rate(q, m, x, table, n):
-    refusal = refused_message_call(q, m, x, table) or ([7, 0] if n > 256 else None)
-    return [*refusal, 0, 0] if refusal else [*DONE, n * message_length(q, x, m), n * (m + x)]
+def rate(p, table, n):
+    refusal = refused_message_call(p, table) or (refused(7) if n > 256 else None)
+    return Rated(refusal, 0, 0) if refusal else Rated(DONE, n * message_length(p), n * (p.m + p.x))
 
 
-def cells_of(n, m, x):
-    return n * m + (n - 1) * x if n else 0
+def cells_of(p, n):
+    """How many cells n words are."""
+    return n * p.m + (n - 1) * p.x if n else 0
 
 
-def words_in(cells, m, x):
+def words_in(p, cells):
     """How many words so many cells are; None where no stream has that length."""
-    return next((n for n in range(cells + 1) if cells_of(n, m, x) == cells), None)
+    return next((n for n in range(cells + 1) if cells_of(p, n) == cells), None)
 
 
-def bridge(q, x, before, after):
-    return [q - 1 if (before, after) == (q - 1, q - 1) else 0] * x
+def refused_length(p, cells):
+    n = words_in(p, len(cells))
+    return refused(7) if n is None or n > 256 else None
 
 
-def stream_of(q, x, words):
+def bridge(p, before, after):
+    return [p.q - 1 if (before, after) == (p.q - 1, p.q - 1) else 0] * p.x
+
+
+def stream_of(p, words):
     cells = []
     for word in words:
-        cells += (bridge(q, x, cells[-1], word[0]) if cells else []) + word
+        cells += (bridge(p, cells[-1], word[0]) if cells else []) + word
     return cells
 
 
-def faults(q, m, x, cells):
-    """Every cell at or above q, pattern in a word and wrong bridge cell of a stream, as number and place."""
-    found = [(10, place) for place, cell in enumerate(cells) if cell >= q]
-    for start in range(0, len(cells), m + x):
-        place = first_pattern(q, x, cells[start : start + m])
-        found += [] if place is None else [(11, start + place)]
-    for start in range(m, len(cells), m + x):
-        right = bridge(q, x, cells[start - 1], cells[start + x])
-        found += [(13, start + i) for i in range(x) if cells[start + i] != right[i]]
+def words_of(p, cells):
+    """The words of a stream, each with its place."""
+    return [(start, cells[start : start + p.m]) for start in range(0, len(cells), p.m + p.x)]
+
+
+def faults(p, cells):
+    """Every cell at or above q, pattern in a word and wrong bridge cell of a stream."""
+    found = [refused(10, place) for place, cell in enumerate(cells) if cell >= p.q]
+    for start, word in words_of(p, cells):
+        place = first_pattern(p, word)
+        found += [] if place is None else [refused(11, start + place)]
+    for start in range(p.m, len(cells), p.m + p.x):
+        right = bridge(p, cells[start - 1], cells[start + p.x])
+        found += [refused(13, start + i) for i in range(p.x) if cells[start + i] != right[i]]
     return found
 
 
-def silent(q, m, x, cells):
+def silent(p, cells):
     """Every word of a stream of legal words that carries no message."""
     found = []
-    for start in range(0, len(cells), m + x):
-        word = cells[start : start + m]
-        found += [(14, start)] if set(word) == {0} else []
-        found += [(15, start)] if index_of(q, x, word) > 2 ** message_length(q, x, m) else []
-        found += [(16, start)] if set(word) == {q - 1} else []
+    for start, word in words_of(p, cells):
+        found += [refused(14, start)] if set(word) == {0} else []
+        found += [refused(15, start)] if index_of(p, word) > 2 ** message_length(p) else []
+        found += [refused(16, start)] if set(word) == {p.q - 1} else []
     return found
 
 
 def least(found):
-    return list(min(found)) if found else None
+    return min(found, default=None)
 
 
 def text_of(numbers, digits):
     return "".join(format(number, f"0{digits}b") for number in numbers)
 
 
-def write(q, m, x, table, data, bits, lent):
-    refusal = refused_message_call(q, m, x, table)
+def bytes_of(text):
+    """The bytes of a text of bits, with zero bits to the end of the last."""
+    return [int(text[i : i + 8].ljust(8, "0"), 2) for i in range(0, len(text), 8)]
+
+
+def write(p, table, data, bits, lent):
+    refusal = refused_message_call(p, table)
     if refusal:
         return written(refusal, [], lent)
-    s, text = message_length(q, x, m), text_of(data[: -(-bits // 8)], 8)
+    s, text = message_length(p), text_of(data[: -(-bits // 8)], 8)
     n = bits // s
-    refusal = [7, 0] if bits % s or n > 256 or -(-bits // 8) > len(data) else None
-    refusal = refusal or ([8, text.index("1", bits)] if "1" in text[bits:] else None)
-    refusal = refusal or ([9, 0] if len(lent) < cells_of(n, m, x) else None)
+    refusal = refused(7) if bits % s or n > 256 or -(-bits // 8) > len(data) else None
+    refusal = refusal or (refused(8, text.index("1", bits)) if "1" in text[bits:] else None)
+    refusal = refusal or (refused(9) if len(lent) < cells_of(p, n) else None)
     if refusal:
         return written(refusal, [], lent)
     messages = [int(text[k * s : k * s + s], 2) for k in range(n)]
-    return written(None, stream_of(q, x, [word_of(q, x, m, message + 1) for message in messages]), lent)
+    return written(None, stream_of(p, [word_of(p, message + 1) for message in messages]), lent)
 
 
-def read(q, m, x, table, cells, lent):
-    refusal = refused_message_call(q, m, x, table)
-    n = None if refusal else words_in(len(cells), m, x)
-    refusal = refusal or ([7, 0] if n is None or n > 256 else None)
+def read(p, table, cells, lent):
+    refusal = refused_message_call(p, table) or refused_length(p, cells)
     if refusal:
         return written(refusal, [], lent)
-    s = message_length(q, x, m)
-    refusal = [9, 0] if len(lent) < -(-n * s // 8) else None
-    refusal = refusal or least(faults(q, m, x, cells)) or least(silent(q, m, x, cells))
+    s, words = message_length(p), words_of(p, cells)
+    refusal = refused(9) if len(lent) < -(-len(words) * s // 8) else None
+    refusal = refusal or least(faults(p, cells)) or least(silent(p, cells))
     if refusal:
         return written(refusal, [], lent)
-    starts = range(0, len(cells), m + x)
-    text = text_of([index_of(q, x, cells[start : start + m]) - 1 for start in starts], s)
-    filled = text + "0" * (-len(text) % 8)
-    answer, left = written(None, [int(filled[i : i + 8], 2) for i in range(0, len(filled), 8)], lent)
-    return [*DONE, len(text)], left
+    text = text_of([index_of(p, word) - 1 for _, word in words], s)
+    return written(None, bytes_of(text), lent)._replace(count=len(text))
 
 
-def join(q, m, x, a, b, lent):
-    refusal = refused_profile(q, m, x)
+def join(p, a, b, lent):
+    refusal = refused_profile(p)
     if refusal:
         return written(refusal, [], lent)
-    words = [words_in(len(cells), m, x) for cells in (a, b)]
-    refusal = [7, 0] if None in words or sum(words) > 256 else None
-    joined = a + (bridge(q, x, a[-1], b[0]) if a and b else []) + b
-    refusal = refusal or ([9, 0] if len(lent) < len(joined) else None)
+    words = [words_in(p, len(cells)) for cells in (a, b)]
+    refusal = refused(7) if None in words or sum(words) > 256 else None
+    joined = a + (bridge(p, a[-1], b[0]) if a and b else []) + b
+    refusal = refusal or (refused(9) if len(lent) < len(joined) else None)
     if refusal:
         return written(refusal, [], lent)
-    found = faults(q, m, x, a) + [(number, len(a) + place) for number, place in faults(q, m, x, b)]
+    found = faults(p, a) + [fault._replace(place=len(a) + fault.place) for fault in faults(p, b)]
     return written(least(found), joined, lent)
 
 
-def turn(q, m, x, cells, lent):
-    refusal = refused_profile(q, m, x)
-    n = None if refusal else words_in(len(cells), m, x)
-    refusal = refusal or ([7, 0] if n is None or n > 256 else None) or ([9, 0] if len(lent) < len(cells) else None)
-    refusal = refusal or least(faults(q, m, x, cells))
+def turn(p, cells, lent):
+    refusal = refused_profile(p) or refused_length(p, cells)
+    refusal = refusal or (refused(9) if len(lent) < len(cells) else None) or least(faults(p, cells))
     return written(refusal, cells[::-1], lent)
+
+
+def line_of(p):
+    """The line for a profile that the listing program reads."""
+    return f"{p.q} {p.m} {p.x}\n".encode()
 
 
 @cache
@@ -313,19 +369,19 @@ def printed(data):
     line = re.fullmatch(number + b" " + number + b" " + number + b"\n", data)
     if not line:
         return "refused line\n"
-    q, m, x = map(int, line.groups())
-    refusal = refused_profile(q, m, x)
+    p = Profile(*map(int, line.groups()))
+    refusal = refused_profile(p)
     if refusal:
-        return f"refused {refusal[0]}\n"
-    if count(q, x, m) > 4096:
+        return f"refused {refusal.number}\n"
+    if count(p) > 4096:
         return "too many\n"
-    s = message_length(q, x, m)
-    lines = [f"{q} {m} {x} {count(q, x, m)} {s}"]
-    for i in range(count(q, x, m)):
+    s = message_length(p)
+    lines = [f"{p.q} {p.m} {p.x} {count(p)} {s}"]
+    for i in range(count(p)):
         message = i - 1 if s and 1 <= i <= 2**s else "-"
-        lines.append(f"{i} {','.join(map(str, word_of(q, x, m, i)))} {message}")
+        lines.append(f"{i} {','.join(map(str, word_of(p, i)))} {message}")
     return "".join(f"{line}\n" for line in lines)
 
 
 def list_code(data, lent):
-    return written([9, 0] if len(lent) < 262144 else None, printed(data).encode(), lent)
+    return written(refused(9) if len(lent) < 262144 else None, printed(data).encode(), lent)

@@ -8,143 +8,149 @@ from itertools import product
 from random import Random
 
 import second
-from cases import CELL_MARK, LARGE, LIMB_MARK, Table, case, digest, print_chosen, runs
+from cases import CELL_MARK, LARGE, LIMB_MARK, Table, case, digest, print_chosen, profile, runs
+from second import Profile
 
 random = Random(20)
 
 
-def rows(answer, lent, room):
+def rows(answer):
     """A table's output: a digest of all 1,400 limbs that the program holds, and the last row written."""
-    written = answer[2]
-    return [*answer, digest(lent + [LIMB_MARK] * (1400 - room)), *lent[max(written - 10, 0) : written]]
+    held = answer.lent + [LIMB_MARK] * (1400 - len(answer.lent))
+    return answer.reply, answer.count, digest(held), *held[max(answer.count - 10, 0) : answer.count]
 
 
-def build(q, m, x, room):
-    case(f"1 build {q} {m} {x} room {room}", *rows(*second.build(q, m, x, [LIMB_MARK] * room), room))
+def build(p, room):
+    case(f"1 build {profile(p)} room {room}", *rows(second.build(p, [LIMB_MARK] * room)))
 
 
 def shipped(m, room):
-    case(f"2 shipped {m} room {room}", *rows(*second.shipped(m, [LIMB_MARK] * room), room))
+    case(f"2 shipped {m} room {room}", *rows(second.shipped(m, [LIMB_MARK] * room)))
 
 
-def index(q, m, x, cells, table=None):
-    table = table or Table(q, m, x)
-    case(f"3 index {q} {m} {x} {table.text} {runs(cells)}", *second.index(q, m, x, table.limbs, list(cells)))
+def index(p, cells, table=None):
+    table = table or Table(p)
+    answer = second.index(p, table.limbs, list(cells))
+    case(f"3 index {profile(p)} {table.text} {runs(cells)}", answer.reply, *second.limbs_of(answer.index))
 
 
-def word(q, m, x, number, room=None, table=None):
-    table, room = table or Table(q, m, x), m if room is None else room
+def word(p, number, room=None, table=None):
+    table, room = table or Table(p), p.m if room is None else room
     limbs = second.limbs_of(number)
-    answer, lent = second.word(q, m, x, table.limbs, limbs, [CELL_MARK] * room)
-    case(f"4 word {q} {m} {x} {table.text} index {' '.join(map(str, limbs))} room {room}", *answer, *lent)
+    answer = second.word(p, table.limbs, limbs, [CELL_MARK] * room)
+    case(f"4 word {profile(p)} {table.text} index {' '.join(map(str, limbs))} room {room}", answer.reply, answer.count, *answer.lent)
 
 
 def find(q, x, cells):
-    case(f"5 find {q} {x} {runs(cells)}", *second.find(q, x, cells))
+    case(f"5 find {q} {x} {runs(cells)}", second.find(q, x, cells))
 
 
 def published(row):
-    case(f"6 published {row}", *second.published(row))
+    answer = second.published(row)
+    of = answer.profile
+    case(f"6 published {row}", answer.reply, of.q, of.x, of.m, answer.s)
 
 
-def rate(q, m, x, n, table=None):
-    table = table or Table(q, m, x)
-    case(f"7 rate {q} {m} {x} {table.text} words {n}", *second.rate(q, m, x, table.limbs, n))
+def rate(p, n, table=None):
+    table = table or Table(p)
+    case(f"7 rate {profile(p)} {table.text} words {n}", *second.rate(p, table.limbs, n))
 
 
-EDGES = list(product((1, 2, 32, 33), (0, 1, 128, 129), (0, 1, 8, 9)))
+EDGES = [Profile(*edge) for edge in product((1, 2, 32, 33), (0, 1, 128, 129), (0, 1, 8, 9))]
+LARGEST = [Profile(LARGE, LARGE, LARGE), Profile(32, LARGE, LARGE), Profile(32, 128, LARGE)]
+SMALL, SHORT = Profile(2, 3, 1), Profile(4, 5, 1)
 ROOM = 1303
 
 
 def tables():
-    for q, m, x in EDGES:
-        build(q, m, x, ROOM)
-    for q, x, m, _ in second.ROWS:
-        build(q, m, x, 10 * (m + 1))
-    build(4, 9, 1, 100)
-    build(4, 9, 1, 99)
-    build(LARGE, LARGE, LARGE, 0)
-    build(32, LARGE, LARGE, 0)
-    build(32, 128, LARGE, 0)
+    for p in EDGES:
+        build(p, ROOM)
+    for row in second.ROWS:
+        build(row.profile, 10 * (row.profile.m + 1))
+    build(Profile(4, 9, 1), 100)
+    build(Profile(4, 9, 1), 99)
+    for p in LARGEST:
+        build(p, 0)
     for m, room in product((0, 1, 2, 9, 77, 128, 129, LARGE), (0, 10, 19, 20, 100, 1289, 1290, ROOM)):
         shipped(m, room)
 
 
-def drawn_words(q, m, x, times):
+def drawn_words(p, times):
     """The first two words, the last two, and some between: each index and its word."""
-    n = second.count(q, x, m)
+    n = second.count(p)
     for number in {0, 1, n - 2, n - 1, *(random.randrange(n) for _ in range(times))}:
         if number >= 0:
-            word(q, m, x, number, m + 3)
-            index(q, m, x, second.word_of(q, x, m, number))
+            word(p, number, p.m + 3)
+            index(p, second.word_of(p, number))
 
 
-def every_word(q, m, x):
+def every_word(p):
     """Every run of m cells, legal or not, and the word of every index, and one more."""
-    for cells in product(range(q), repeat=m):
-        index(q, m, x, cells)
-    for number in range(second.count(q, x, m) + 1):
-        word(q, m, x, number)
+    for cells in product(range(p.q), repeat=p.m):
+        index(p, cells)
+    for number in range(second.count(p) + 1):
+        word(p, number)
 
 
 def words():
-    every_word(2, 3, 1)
-    every_word(3, 3, 2)
-    every_word(2, 5, 2)
-    for q, m, x in EDGES:
-        if second.refused_profile(q, m, x):
-            index(q, m, x, [0], Table(2, 3, 1))
-            word(q, m, x, 0, 1, Table(2, 3, 1))
+    every_word(SMALL)
+    every_word(Profile(3, 3, 2))
+    every_word(Profile(2, 5, 2))
+    for p in EDGES:
+        if second.refused_profile(p):
+            index(p, [0], Table(SMALL))
+            word(p, 0, 1, Table(SMALL))
         else:
-            drawn_words(q, m, x, 2)
-    for q, x, m, _ in second.ROWS:
-        drawn_words(q, m, x, 1)
+            drawn_words(p, 2)
+    for row in second.ROWS:
+        drawn_words(row.profile, 1)
     for _ in range(40):
-        drawn_words(random.randint(2, 32), random.randint(1, 128), random.randint(1, 8), 1)
+        drawn_words(Profile(random.randint(2, 32), random.randint(1, 128), random.randint(1, 8)), 1)
 
 
 def mistakes():
     """The five mistakes that document 01 expects, where they show in a call on one word."""
-    index(4, 4, 1, [1, 0, 0, 0])
-    index(4, 6, 2, [0, 1, 1, 3, 0, 2])
-    index(4, 6, 2, [2, 0, 3, 3, 2, 0])
-    index(4, 5, 1, [0, 1, 2, 3, 3])
-    index(4, 5, 1, [1, 3, 0, 0, 1])
-    word(4, 5, 1, 108)
-    word(4, 5, 1, 107)
+    index(Profile(4, 4, 1), [1, 0, 0, 0])
+    index(Profile(4, 6, 2), [0, 1, 1, 3, 0, 2])
+    index(Profile(4, 6, 2), [2, 0, 3, 3, 2, 0])
+    index(SHORT, [0, 1, 2, 3, 3])
+    index(SHORT, [1, 3, 0, 0, 1])
+    word(SHORT, 108)
+    word(SHORT, 107)
     find(4, 1, [0, 1, 2, 3, 0, 3, 0, 0, 1])
     for m in range(1, 8):
         for x, other in ((1, 2), (2, 1), (2, 5), (8, 3)):
-            index(4, m, x, [0] * m, Table(4, m, other))
-    build(4, 9, 1, ROOM)
-    rate(4, 9, 1, 1)
+            index(Profile(4, m, x), [0] * m, Table(Profile(4, m, other)))
+    build(Profile(4, 9, 1), ROOM)
+    rate(Profile(4, 9, 1), 1)
 
 
 def word_refusals():
     """Every number of index and word, the lowest where several apply, and a short output before a high index."""
-    good = Table(4, 5, 1)
+    good, count = Table(SHORT), second.count(SHORT)
     for lent in (0, 1, 59):
-        index(4, 5, 1, [9] * 4, Table(4, 5, 1, 5, 9, 1, lent))
-        word(4, 5, 1, 2**640 - 1, 4, Table(4, 5, 1, 5, 9, 1, lent))
-    index(4, 5, 1, [9] * 4, Table(4, 5, 1, 3, 2, 7))
-    word(4, 5, 1, 2**640 - 1, 4, Table(4, 5, 1, 3, 2, 7))
-    index(4, 5, 1, [0, 1, 2, 3, 3], Table(4, 5, 1, 6, 0, 7, 70))
+        index(SHORT, [9] * 4, Table(SHORT, 5, 9, 1, lent))
+        word(SHORT, 2**640 - 1, 4, Table(SHORT, 5, 9, 1, lent))
+    index(SHORT, [9] * 4, Table(SHORT, 3, 2, 7))
+    word(SHORT, 2**640 - 1, 4, Table(SHORT, 3, 2, 7))
+    index(SHORT, [0, 1, 2, 3, 3], Table(SHORT, 6, 0, 7, 70))
     for cells in ([], [9] * 4, [0] * 6, [3, 0, 3, 0, 4], [4, 0, 0, 0, 0], [3, 0, 3, 0, 0], [0, 0, 3, 2, 3], [3, 0, 3, 1, 3], [0, 255, 3, 1, 3]):
-        index(4, 5, 1, cells, good)
-    for number in (second.count(4, 1, 5) - 1, second.count(4, 1, 5), 2**64, 2**576, 2**639 + 5, 2**640 - 1):
+        index(SHORT, cells, good)
+    for number in (count - 1, count, 2**64, 2**576, 2**639 + 5, 2**640 - 1):
         for room in (0, 4, 5, 9):
-            word(4, 5, 1, number, room, good)
-    index(4, 4, 1, [3, 2, 2, 3])
-    index(4, 4, 2, [3, 2, 2, 3])
-    index(4, 3, 1, [3, 2, 3])
+            word(SHORT, number, room, good)
+    index(Profile(4, 4, 1), [3, 2, 2, 3])
+    index(Profile(4, 4, 2), [3, 2, 2, 3])
+    index(Profile(4, 3, 1), [3, 2, 3])
 
 
 def damaged_tables():
     """A table damaged in each row and limb: refused 6 at that row, whatever was added."""
+    middle, longest = Profile(4, 14, 1), Profile(32, 128, 1)
     for row, limb in product(range(15), range(10)):
-        index(4, 14, 1, [0] * 14, Table(4, 14, 1, row, limb, random.choice((1, 2**32, 2**63, 2**64 - 1)) % LARGE))
+        index(middle, [0] * 14, Table(middle, row, limb, random.choice((1, 2**32, 2**63, 2**64 - 1)) % LARGE))
     for row in (0, 64, 127, 128):
-        word(32, 128, 1, 0, 128, Table(32, 128, 1, row, random.randrange(10), 1))
+        word(longest, 0, 128, Table(longest, row, random.randrange(10), 1))
 
 
 def legal_run(q, x, length):
@@ -179,19 +185,20 @@ def finder():
 
 
 def catalogue():
+    middle = Profile(4, 97, 1)
     for row in (*range(42), LARGE):
         published(row)
-    for q, x, m, _ in second.ROWS:
-        rate(q, m, x, 256)
+    for row in second.ROWS:
+        rate(row.profile, 256)
     for n in (0, 1, 2, 256, 257, LARGE):
-        rate(4, 97, 1, n)
-        rate(4, 97, 1, n, Table(4, 97, 2))
-        rate(4, 97, 1, n, Table(4, 97, 1, lent=979))
-    for q, m, x in EDGES:
-        rate(q, m, x, 3, Table(q, m, x) if second.refused_profile(q, m, x) is None else Table(2, 3, 1))
+        rate(middle, n)
+        rate(middle, n, Table(Profile(4, 97, 2)))
+        rate(middle, n, Table(middle, lent=979))
+    for p in EDGES:
+        rate(p, 3, Table(p) if second.refused_profile(p) is None else Table(SMALL))
     for q, m in product((2, 3, 4, 5), (1, 2, 3)):
-        rate(q, m, 1, 5)
-        rate(q, m, 1, 500, Table(q, m, 1, 0, 0, 1, 9))
+        rate(Profile(q, m, 1), 5)
+        rate(Profile(q, m, 1), 500, Table(Profile(q, m, 1), 0, 0, 1, 9))
 
 
 for part in (tables, words, mistakes, word_refusals, damaged_tables, finder, catalogue):
