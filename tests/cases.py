@@ -1,49 +1,70 @@
 """What the programs that write test cases share: the cases with their answers, profiles, lent tables, runs of cells, a digest of limbs.
 
-In a script only the numbers count; the words say what they are, and the first of them which call it is.
+A script is the number of its cases, and then the cases, each with its length in bytes before it: numbers of seven digits, and a byte behind
+them. In a case only the numbers count; the words say what they are. It begins with its call, and with the call's number where a program runs
+several.
 """
 
 import re
 import sys
 from collections import defaultdict
+from pathlib import Path
 
 import second
 
 LIMB_MARK, CELL_MARK = 1000003, 200
 LARGE = 18446744073709551600
+CRATES = Path(__file__).parent.parent / "crates"
 script, answers, met = [], [], defaultdict(set)
+
+# What calls_run runs, by its number in a script, 1 for the first; all but the last are calls.
+CALLS = (
+    *("build_table", "shipped_table", "index_of_word", "word_of_index", "find_pattern", "published_profile", "rate_of_words"),
+    *("write_stream", "read_stream", "join_streams", "turn_stream", "long_stream"),
+)
 
 # Every number that each call can give.
 NUMBERS = {
-    "build": {0, 1, 2, 3, 9},
-    "shipped": {0, 2, 9},
-    "index": {0, 1, 2, 3, 5, 6, 7, 10, 11},
-    "word": {0, 1, 2, 3, 5, 6, 9, 12},
-    "write": {0, 1, 2, 3, 4, 5, 6, 7, 8, 9},
-    "read": {0, 1, 2, 3, 4, 5, 6, 7, 9, 10, 11, 13, 14, 15},
-    "join": {0, 1, 2, 3, 7, 9, 10, 11, 13},
-    "turn": {0, 1, 2, 3, 7, 9, 10, 11, 13},
-    "find": {0, 1, 3, 7, 10, 11},
-    "published": {0, 12},
-    "rate": {0, 1, 2, 3, 4, 5, 6, 7},
-    "list": {0, 9},
-    "long": {0, 7},
+    "build_table": {0, 1, 2, 3, 9},
+    "shipped_table": {0, 2, 9},
+    "index_of_word": {0, 1, 2, 3, 5, 6, 7, 10, 11},
+    "word_of_index": {0, 1, 2, 3, 5, 6, 9, 12},
+    "write_stream": {0, 1, 2, 3, 4, 5, 6, 7, 8, 9},
+    "read_stream": {0, 1, 2, 3, 4, 5, 6, 7, 9, 10, 11, 13, 14, 15},
+    "join_streams": {0, 1, 2, 3, 7, 9, 10, 11, 13},
+    "turn_stream": {0, 1, 2, 3, 7, 9, 10, 11, 13},
+    "find_pattern": {0, 1, 3, 7, 10, 11},
+    "published_profile": {0, 12},
+    "rate_of_words": {0, 1, 2, 3, 4, 5, 6, 7},
+    "list_code": {0, 9},
+    "long_stream": {0, 7},
 }
 
 
-def case(text, reply, *shown):
-    """A case, and what is printed of its answer: the reply, then what else is shown."""
-    met[re.search("[a-z]+", text)[0]].add(reply.number)
-    script.append(text)
+def case(call, given, reply, *shown):
+    """A case: the call, what it is given, and what is printed of its answer, which is the reply and what else is shown."""
+    met[call].add(reply.number)
+    script.append(f"{1 + CALLS.index(call)} {call} {given}" if call in CALLS else f"{call} {given}")
     answers.append("".join(f" {number}" for number in (*reply, *shown)))
 
 
-def print_chosen():
-    """The script or the answers, as the command says, if every number that the calls can give is among them."""
+def written(call, given, answer):
+    """A case of a call that writes, with all that was lent."""
+    case(call, given, answer.reply, answer.count, *answer.lent)
+
+
+def print_chosen(program):
+    """The script or the answers, as the command says, if every number that the calls can give is among them and the program has room."""
     for call, numbers in met.items():
         if numbers != NUMBERS[call]:
             sys.exit(f"{call}: the cases give {sorted(numbers)}, and not {sorted(NUMBERS[call])}")
-    print("\n".join([f"{len(script)} cases", *script] if sys.argv[1] == "script" else answers))
+    source = (CRATES / program / "src/main.rt").read_text()
+    room = int(re.search(r"let mut text = \[0u8; (\d+)\];", source)[1])
+    longest = max(map(len, script)) + 1
+    if longest > room:
+        sys.exit(f"a case has {longest} bytes, and {program} has room for {room}")
+    lines = [f"{len(script):7}", *(f"{len(case) + 1:7} {case}" for case in script)] if sys.argv[1] == "script" else answers
+    print("\n".join(lines))
 
 
 def digest(numbers):

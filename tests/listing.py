@@ -24,7 +24,7 @@ def listing(data, room=ROOM, shown=None):
     text = second.printed(data)
     shown = min(room, len(text) + 100) if shown is None else shown
     answer = second.list_code(data, bytes([CELL_MARK]) * room)
-    case(f"list room {room} shown {shown} {runs(data)}", answer.reply, answer.count, digest(answer.lent[:shown]))
+    case("list_code", f"room {room} shown {shown} {runs(data)}", answer.reply, answer.count, digest(answer.lent[:shown]))
     if 0 < answer.count < SHORT:
         answers.append(text.removesuffix("\n"))
 
@@ -80,4 +80,4 @@ if sys.argv[1] == "program":
     sys.exit()
 for part in (every_code, out_of_range, damaged, lambda: drawn(200), rooms):
     part()
-print_chosen()
+print_chosen("listing_run")

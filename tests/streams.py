@@ -1,14 +1,10 @@
-"""The cases that the program streams_run runs, and what it must print, worked out by the second program.
-
-python3 tests/streams.py script     writes the cases, one to a line
-python3 tests/streams.py answers    writes the answers, one to a line
-"""
+"""The cases of the calls on streams."""
 
 from itertools import product
 from random import Random
 
 import second
-from cases import CELL_MARK, LARGE, Table, case, digest, print_chosen, profile, runs
+from cases import CELL_MARK, LARGE, Table, case, digest, profile, runs, written
 from second import Profile
 
 LONGEST_STREAM, LONGEST_MESSAGES = 35000, 20480
@@ -18,23 +14,23 @@ random = Random(30)
 def write(p, data, bits, room, table=None):
     table = table or Table(p)
     answer = second.write(p, table.limbs, data, bits, [CELL_MARK] * room)
-    case(f"1 write {profile(p)} {table.text} {runs(data)} bits {bits} room {room}", answer.reply, answer.count, *answer.lent)
+    written("write_stream", f"{profile(p)} {table.text} {runs(data)} bits {bits} room {room}", answer)
 
 
 def read(p, cells, room, table=None):
     table = table or Table(p)
     answer = second.read(p, table.limbs, list(cells), [CELL_MARK] * room)
-    case(f"2 read {profile(p)} {table.text} {runs(cells)} room {room}", answer.reply, answer.count, *answer.lent)
+    written("read_stream", f"{profile(p)} {table.text} {runs(cells)} room {room}", answer)
 
 
 def join(p, a, b, room):
     answer = second.join(p, list(a), list(b), [CELL_MARK] * room)
-    case(f"3 join {profile(p)} first {runs(a)} second {runs(b)} room {room}", answer.reply, answer.count, *answer.lent)
+    written("join_streams", f"{profile(p)} first {runs(a)} second {runs(b)} room {room}", answer)
 
 
 def turn(p, cells, room):
     answer = second.turn(p, list(cells), [CELL_MARK] * room)
-    case(f"4 turn {profile(p)} {runs(cells)} room {room}", answer.reply, answer.count, *answer.lent)
+    written("turn_stream", f"{profile(p)} {runs(cells)} room {room}", answer)
 
 
 def drawn(seed, n):
@@ -49,8 +45,8 @@ def long_stream(p, seed, words, place=LARGE, level=0):
     """Drawn messages are written, one cell is changed, and the stream is read, turned and joined with itself."""
     table, bits = Table(p), words * second.message_length(p)
     data = drawn(seed, -(-bits // 8))
-    written = second.write(p, table.limbs, data, bits, [CELL_MARK] * LONGEST_STREAM)
-    cells = written.lent[: written.count]
+    first = second.write(p, table.limbs, data, bits, [CELL_MARK] * LONGEST_STREAM)
+    cells = first.lent[: first.count]
     if place < len(cells):
         cells[place] = level
     then = [
@@ -59,8 +55,8 @@ def long_stream(p, seed, words, place=LARGE, level=0):
         second.join(p, cells, cells, [CELL_MARK] * LONGEST_STREAM),
     ]
     shown = [number for answer in then for number in (*answer.reply, answer.count, digest(answer.lent))]
-    text = f"5 long {profile(p)} {table.text} seed {seed} bytes {len(data)} bits {bits} change {place} to {level}"
-    case(text, written.reply, written.count, digest(written.lent), *shown)
+    text = f"{profile(p)} {table.text} seed {seed} bytes {len(data)} bits {bits} change {place} to {level}"
+    case("long_stream", text, first.reply, first.count, digest(first.lent), *shown)
 
 
 SMALL, ONE, SHORT = Profile(2, 3, 1), Profile(2, 1, 1), Profile(4, 5, 1)
@@ -202,6 +198,6 @@ def long_streams():
         long_stream(p, 6, 128, 100 * (p.m + p.x) + p.m, 1)
 
 
-for part in (small_profiles, story, lowest_numbers, many_words, lambda: drawn_streams(120), long_streams):
-    part()
-print_chosen()
+def every_case():
+    for part in (small_profiles, story, lowest_numbers, many_words, lambda: drawn_streams(120), long_streams):
+        part()

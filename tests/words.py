@@ -1,14 +1,10 @@
-"""The cases that the program words_run runs, and what it must print, worked out by the second program.
-
-python3 tests/words.py script     writes the cases, one to a line
-python3 tests/words.py answers    writes the answers, one to a line
-"""
+"""The cases of the calls on tables, words, runs of cells and profiles."""
 
 from itertools import product
 from random import Random
 
 import second
-from cases import CELL_MARK, LARGE, LIMB_MARK, Table, case, digest, print_chosen, profile, runs
+from cases import CELL_MARK, LARGE, LIMB_MARK, Table, case, digest, profile, runs, written
 from second import Profile
 
 random = Random(20)
@@ -21,39 +17,39 @@ def rows(answer):
 
 
 def build(p, room):
-    case(f"1 build {profile(p)} room {room}", *rows(second.build(p, [LIMB_MARK] * room)))
+    case("build_table", f"{profile(p)} room {room}", *rows(second.build(p, [LIMB_MARK] * room)))
 
 
 def shipped(m, room):
-    case(f"2 shipped {m} room {room}", *rows(second.shipped(m, [LIMB_MARK] * room)))
+    case("shipped_table", f"{m} room {room}", *rows(second.shipped(m, [LIMB_MARK] * room)))
 
 
 def index(p, cells, table=None):
     table = table or Table(p)
     answer = second.index(p, table.limbs, list(cells))
-    case(f"3 index {profile(p)} {table.text} {runs(cells)}", answer.reply, *second.limbs_of(answer.index))
+    case("index_of_word", f"{profile(p)} {table.text} {runs(cells)}", answer.reply, *second.limbs_of(answer.index))
 
 
 def word(p, number, room=None, table=None):
     table, room = table or Table(p), p.m if room is None else room
     limbs = second.limbs_of(number)
     answer = second.word(p, table.limbs, limbs, [CELL_MARK] * room)
-    case(f"4 word {profile(p)} {table.text} index {' '.join(map(str, limbs))} room {room}", answer.reply, answer.count, *answer.lent)
+    written("word_of_index", f"{profile(p)} {table.text} index {' '.join(map(str, limbs))} room {room}", answer)
 
 
 def find(q, x, cells):
-    case(f"5 find {q} {x} {runs(cells)}", second.find(q, x, cells))
+    case("find_pattern", f"{q} {x} {runs(cells)}", second.find(q, x, cells))
 
 
 def published(row):
     answer = second.published(row)
     of = answer.profile
-    case(f"6 published {row}", answer.reply, of.q, of.x, of.m, answer.s)
+    case("published_profile", f"{row}", answer.reply, of.q, of.x, of.m, answer.s)
 
 
 def rate(p, n, table=None):
     table = table or Table(p)
-    case(f"7 rate {profile(p)} {table.text} words {n}", *second.rate(p, table.limbs, n))
+    case("rate_of_words", f"{profile(p)} {table.text} words {n}", *second.rate(p, table.limbs, n))
 
 
 EDGES = [Profile(*edge) for edge in product((1, 2, 32, 33), (0, 1, 128, 129), (0, 1, 8, 9))]
@@ -201,6 +197,6 @@ def catalogue():
         rate(Profile(q, m, 1), 500, Table(Profile(q, m, 1), 0, 0, 1, 9))
 
 
-for part in (tables, words, mistakes, word_refusals, damaged_tables, finder, catalogue):
-    part()
-print_chosen()
+def every_case():
+    for part in (tables, words, mistakes, word_refusals, damaged_tables, finder, catalogue):
+        part()

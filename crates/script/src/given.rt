@@ -9,34 +9,53 @@ pub struct Given {
     pub next: usize,
 }
 
+// A profile, how many limbs of a table are lent with it, and the place behind both.
+pub struct Tabled {
+    pub profile: Profile,
+    pub limbs: usize,
+    pub next: usize,
+}
+
 // A profile: q, m and x.
 pub fn profile(text: &[u8], at: usize) -> Given {
-    let q = crate::number(text, at);
-    let m = crate::number(text, q.next);
-    let x = crate::number(text, m.next);
+    let q = crate::count(text, at);
+    let m = crate::count(text, q.next);
+    let x = crate::count(text, m.next);
     Given {
         profile: Profile {
-            q: q.value as usize,
-            m: m.value as usize,
-            x: x.value as usize,
+            q: q.n,
+            m: m.n,
+            x: x.n,
         },
         next: x.next,
     }
 }
 
-// A table: the profile that it is built for, then a row, a limb of it and what is added to that limb.
-// The place behind them.
-pub fn table(text: &[u8], at: usize, table: &mut [u64]) -> usize {
-    let of = profile(text, at);
-    tables::build(of.profile, table);
-    let row = crate::number(text, of.next);
-    let limb = crate::number(text, row.next);
+// Damage to a table: a row, a limb of it, and what is added to that limb. The place behind them.
+fn damage(text: &[u8], at: usize, table: &mut [u64]) -> usize {
+    let row = crate::count(text, at);
+    let limb = crate::count(text, row.next);
     let added = crate::number(text, limb.next);
-    let place = crate::count(row.value, 200) * 10 + crate::count(limb.value, 9);
+    let place = crate::at_most(row.n, 200) * 10 + crate::at_most(limb.n, 9);
     if place < table.len() {
         table[place] = wrapping_add_u64(table[place], added.value);
     }
     added.next
+}
+
+// A profile, and the table that is lent with it: the profile that it is built for, its damage, and how
+// many of its limbs are lent.
+pub fn with_table(text: &[u8], at: usize, table: &mut [u64]) -> Tabled {
+    let given = profile(text, at);
+    let of = profile(text, given.next);
+    tables::build(of.profile, table);
+    let lent = crate::count(text, damage(text, of.next, table));
+    let profile = given.profile;
+    Tabled {
+        profile,
+        limbs: lent.n,
+        next: lent.next,
+    }
 }
 
 // The ten limbs of an index, and the place behind them.

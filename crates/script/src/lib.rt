@@ -1,15 +1,40 @@
 // What the test programs share: reading a script of cases, which are numbers, profiles, tables and
-// runs of cells, and showing answers. In a script only the digits count; what stands between numbers
-// is for the reader.
+// runs of cells, lending a part of an output, and showing answers. A script is how many cases there
+// are, and then the cases, each with its length in bytes before it. In a case only the digits count;
+// what stands between numbers is for the reader.
 ghost use Prim.Native.Nat.{_≤_};
 
 pub mod given;
+pub mod lent;
 pub mod show;
 
 // A number of the script, and the place behind it.
 pub struct Read {
     pub value: u64,
     pub next: usize,
+}
+
+// A count of the script, or of what was filled from it, and the place behind it.
+pub struct Counted {
+    pub n: usize,
+    pub next: usize,
+}
+
+// A number of the script that stands alone in eight bytes.
+fn alone() -> usize {
+    let mut bytes = [0u8; 8];
+    io::read_full(0, &mut bytes);
+    count(&bytes, 0).n
+}
+
+// How many cases the script has. It is read first.
+pub fn cases() -> usize {
+    alone()
+}
+
+// Reads the next case of the script.
+pub fn read_case(text: &mut [u8]) {
+    io::read_full(0, lent::cells(text, alone()));
 }
 
 // A digit's value, or 10 for any other byte.
@@ -50,20 +75,28 @@ pub fn number(script: &[u8], at: usize) -> Read {
     Read { value, next: i }
 }
 
-// A number of the script as a count of at most `most`.
-pub fn count(n: u64, most: usize) -> usize
+// The first number from `at` on, as a count.
+pub fn count(script: &[u8], at: usize) -> Counted {
+    let read = number(script, at);
+    Counted {
+        n: read.value as usize,
+        next: read.next,
+    }
+}
+
+// A count, or `most` where it is more.
+fn at_most(n: usize, most: usize) -> usize
     ensures { λ r. ⌜ r ≤ most ⌝ }
 {
-    let m = most as u64;
-    if n < m {
-        return n as usize;
+    if n < most {
+        return n;
     }
     most
 }
 
 // Fills cells with runs: how many runs, then for each its level and how many
-// cells. The number of all cells together, as far as there is room, is the value.
-pub fn runs(script: &[u8], at: usize, cells: &mut [u8]) -> Read {
+// cells. All cells together, as far as there is room, are counted.
+pub fn runs(script: &[u8], at: usize, cells: &mut [u8]) -> Counted {
     let how_many = number(script, at);
     let mut next = how_many.next;
     let mut filled = 0;
@@ -73,10 +106,7 @@ pub fn runs(script: &[u8], at: usize, cells: &mut [u8]) -> Read {
         filled = run(cells, filled, (level.value % 256) as u8, times.value);
         next = times.next;
     }
-    Read {
-        value: filled as u64,
-        next,
-    }
+    Counted { n: filled, next }
 }
 
 // One run of a level from `at` on, as far as there is room; the place behind it.

@@ -1,5 +1,6 @@
 // Showing answers: numbers in decimal with a blank before each, and a line's end.
 use replies::Reply;
+use replies::Written;
 
 const LINE: [u8; 1] = [b'\n'];
 
@@ -20,6 +21,12 @@ pub fn count(n: usize) {
 pub fn reply(r: Reply) {
     number(r.number as u64);
     count(r.place);
+}
+
+// What a call that writes answers: the reply, and how much it wrote.
+pub fn written(w: Written) {
+    reply(w.reply);
+    count(w.count);
 }
 
 // The end of a line.

@@ -7,31 +7,19 @@ use Rattle.listing_run.proofs.main.Statement.{statement}
 use Rattle.listing_run.proofs.main.Tie as tie
 
 abbrev Inv-loop : tie.InvT-loop
-Inv-loop text out₀ at₀ counter₀ end out at counter = (counter ≤ end) × (length out ≡ 262144)
+Inv-loop out₀ counter₀ end out counter = (counter ≤ end) × (length out ≡ 262144)
 
 abbrev μ-loop : tie.MeasureT-loop
-μ-loop text out₀ at₀ counter₀ end out at counter = end - counter
+μ-loop out₀ counter₀ end out counter = end - counter
 
-slice-aggregate-read-full : tie.Need-slice-aggregate-read-full Inv-loop μ-loop
-slice-aggregate-read-full c = search needs
-
-read-full-requires : tie.Need-read-full-requires Inv-loop μ-loop
-read-full-requires c κs = search needs
-
-slice-aggregate-number : tie.Need-slice-aggregate-number Inv-loop μ-loop
-slice-aggregate-number c = search needs
-
-number-requires : tie.Need-number-requires Inv-loop μ-loop
-number-requires c κs = search needs
+cases-requires : tie.Need-cases-requires Inv-loop μ-loop
+cases-requires c κs = search needs
 
 loop-holds : tie.Need-loop-holds Inv-loop μ-loop
 loop-holds c = search needs
 
 slice-aggregate-case : tie.Need-slice-aggregate-case Inv-loop μ-loop
 slice-aggregate-case c = search needs
-
-slice-aggregate-case-2 : tie.Need-slice-aggregate-case-2 Inv-loop μ-loop
-slice-aggregate-case-2 c = search needs
 
 case-requires : tie.Need-case-requires Inv-loop μ-loop
 case-requires c κs = search needs
@@ -54,13 +42,9 @@ main-spec =
     (tie.spec
     Inv-loop
     μ-loop
-    slice-aggregate-read-full
-    read-full-requires
-    slice-aggregate-number
-    number-requires
+    cases-requires
     loop-holds
     slice-aggregate-case
-    slice-aggregate-case-2
     case-requires
     add-counter
     loop-less

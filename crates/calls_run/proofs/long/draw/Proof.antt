@@ -1,10 +1,10 @@
--- `streams_run::long::draw` ends after the last byte; none is added.
+-- `calls_run::long::draw` ends after the last byte; none is added.
 use mathlib.Core.Path.{_≡_}
 use Prim.Native.Nat.{_≤_, _-_}
 use lib.ListN.{length}
 use borrow.Author.Needs.{needs}
-use Rattle.streams_run.proofs.long.draw.Statement.{statement}
-use Rattle.streams_run.proofs.long.draw.Tie as tie
+use Rattle.calls_run.proofs.long.draw.Statement.{statement}
+use Rattle.calls_run.proofs.long.draw.Tie as tie
 
 abbrev Inv-loop : tie.InvT-loop
 Inv-loop seed bytes₀ state₀ i₀ i-end bytes state i = (i ≤ i-end) × ((i-end ≡ length bytes₀) × (length bytes ≡ length bytes₀))

@@ -5,13 +5,9 @@ use replies::Written;
 use script::given;
 use script::show;
 
-// The most cells of a stream.
-const MOST: usize = 35000;
-
 // An answer, and a digest of all that was lent.
 fn written(w: Written, out: &[u8]) {
-    show::reply(w.reply);
-    show::count(w.count);
+    show::written(w);
     show::digest_of_cells(out);
 }
 
@@ -25,10 +21,9 @@ fn draw(seed: u64, bytes: &mut [u8]) {
 }
 
 // A cell changed, where there is one.
-fn change(cells: &mut [u8], place: u64, level: u64) {
-    let i = place as usize;
-    if i < cells.len() {
-        cells[i] = (level % 256) as u8;
+fn change(cells: &mut [u8], place: usize, level: u64) {
+    if place < cells.len() {
+        cells[place] = (level % 256) as u8;
     }
 }
 
@@ -45,31 +40,22 @@ fn stream_given(p: Profile, table: &[u64], cells: &[u8]) {
     show::end();
 }
 
-pub fn stream(text: &[u8], at: usize) -> usize {
-    let given = given::profile(text, at);
+pub fn stream(text: &[u8], at: usize) {
     let mut table = [0u64; 1300];
-    let limbs = script::number(text, given::table(text, given.next, &mut table));
-    let rows = parts::first_limbs(&table, script::count(limbs.value, 1300));
-    let seed = script::number(text, limbs.next);
-    let n = script::number(text, seed.next);
-    let bits = script::number(text, n.next);
-    let place = script::number(text, bits.next);
+    let given = given::with_table(text, at, &mut table);
+    let rows = parts::first_limbs(&table, given.limbs);
+    let seed = script::number(text, given.next);
+    let n = script::count(text, seed.next);
+    let bits = script::count(text, n.next);
+    let place = script::count(text, bits.next);
     let level = script::number(text, place.next);
     let mut bytes = [0u8; 20480];
     draw(seed.value, &mut bytes);
-    let messages = parts::first_cells(&bytes, script::count(n.value, 20480));
+    let messages = parts::first_cells(&bytes, n.n);
     let mut cells = [0u8; 35000];
     show::mark_cells(&mut cells);
-    let w = write_stream::write(
-        given.profile,
-        rows,
-        messages,
-        bits.value as usize,
-        &mut cells,
-    );
+    let w = write_stream::write(given.profile, rows, messages, bits.n, &mut cells);
     written(w, &cells);
-    change(&mut cells, place.value, level.value);
-    let k = script::count(w.count as u64, MOST);
-    stream_given(given.profile, rows, parts::first_cells(&cells, k));
-    level.next
+    change(&mut cells, place.n, level.value);
+    stream_given(given.profile, rows, parts::first_cells(&cells, w.count));
 }
