@@ -3,6 +3,7 @@
 // are, and then the cases, each with its length in bytes before it. In a case only the digits count;
 // what stands between numbers is for the reader.
 ghost use Prim.Native.Nat.{_≤_};
+use std::num::wrapping_add_u64;
 
 pub mod given;
 pub mod lent;
@@ -69,7 +70,7 @@ pub fn number(script: &[u8], at: usize) -> Read {
         if 9 < d {
             return Read { value, next: i };
         }
-        value = (value % 1844674407370955161) * 10 + d;
+        value = wrapping_add_u64((value % 1844674407370955162) * 10, d);
         i += 1;
     }
     Read { value, next: i }

@@ -26,11 +26,11 @@ digit-requires c κs = search needs
 returns : tie.Need-returns Inv-loop μ-loop
 returns c = search needs
 
-mul-value : tie.Need-mul-value Inv-loop μ-loop
-mul-value c = search needs
+mul-wrapping-add-u64 : tie.Need-mul-wrapping-add-u64 Inv-loop μ-loop
+mul-wrapping-add-u64 c = search needs
 
-add-value : tie.Need-add-value Inv-loop μ-loop
-add-value c = search needs
+wrapping-add-u64-requires : tie.Need-wrapping-add-u64-requires Inv-loop μ-loop
+wrapping-add-u64-requires c κs = search needs
 
 add-i : tie.Need-add-i Inv-loop μ-loop
 add-i c = search needs
@@ -55,8 +55,8 @@ number-spec =
     shared-slice-read-digit
     digit-requires
     returns
-    mul-value
-    add-value
+    mul-wrapping-add-u64
+    wrapping-add-u64-requires
     add-i
     loop-less
     loop-again
