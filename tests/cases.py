@@ -10,6 +10,7 @@ import sys
 from collections import defaultdict
 from pathlib import Path
 
+import replies
 import second
 
 LIMB_MARK, CELL_MARK = 1000003, 200
@@ -23,22 +24,8 @@ CALLS = (
     *("write_stream", "read_stream", "join_streams", "turn_stream", "long_stream"),
 )
 
-# Every number that each call can give.
-NUMBERS = {
-    "build_table": {0, 1, 2, 3, 9},
-    "shipped_table": {0, 2, 9},
-    "index_of_word": {0, 1, 2, 3, 5, 6, 7, 10, 11},
-    "word_of_index": {0, 1, 2, 3, 5, 6, 9, 12},
-    "write_stream": {0, 1, 2, 3, 4, 5, 6, 7, 8, 9},
-    "read_stream": {0, 1, 2, 3, 4, 5, 6, 7, 9, 10, 11, 13, 14, 15},
-    "join_streams": {0, 1, 2, 3, 7, 9, 10, 11, 13},
-    "turn_stream": {0, 1, 2, 3, 7, 9, 10, 11, 13},
-    "find_pattern": {0, 1, 3, 7, 10, 11},
-    "published_profile": {0, 12},
-    "rate_of_words": {0, 1, 2, 3, 4, 5, 6, 7},
-    "list_code": {0, 9},
-    "long_stream": {0, 7},
-}
+# A long stream gives the number of writing it.
+NUMBERS = {**replies.NUMBERS, "long_stream": {0, 7}}
 
 
 def case(call, given, reply, *shown):

@@ -22,7 +22,8 @@ from errno import EACCES, EFBIG, EISDIR, ENOENT, ENOSPC
 from pathlib import Path
 
 import second
-from remi import remi
+from remi import SUBCOMMANDS, remi
+from replies import TOLD
 from second import Profile
 
 ROOT = os.getuid() == 0
@@ -37,21 +38,10 @@ if ROOT:
     os.chown(DATA, USER["user"], USER["group"])
 atexit.register(shutil.rmtree, WORK, ignore_errors=True)
 
-# Every number that each subcommand can tell, 12 for a row that there is not among them.
-NUMBERS = {
-    "read": {0, 1, 2, 3, 4, 5, 6, 7, 10, 11, 12, 13, 14, 15},
-    "write": {0, 1, 2, 3, 4, 5, 6, 7, 8, 12},
-    "find": {0, 1, 3, 7, 10, 11},
-    "join": {0, 1, 2, 3, 7, 10, 11, 12, 13},
-    "turn": {0, 1, 2, 3, 7, 10, 11, 12, 13},
-    "index": {0, 1, 2, 3, 5, 6, 7, 10, 11, 12},
-    "word": {0, 1, 2, 3, 5, 6, 12},
-    "table": {0, 1, 2, 3, 5, 6, 12},
-    "rate": {0, 1, 2, 3, 4, 5, 6, 7, 12},
-    "profiles": {0, 12},
-    "list": {0, 1, 2, 3, 12, "too many"},
-    "help": {0},
-}
+# Every number that each subcommand can tell, 12 for a row that there is not among them, and what is told of a code that is too large.
+ROW_REFUSED = {12}
+NUMBERS = {name: told | ROW_REFUSED if "PROFILE" in SUBCOMMANDS[name] else told for name, told in TOLD.items()}
+NUMBERS["list"] |= {"too many"}
 met, cases, there = defaultdict(set), 0, {}
 
 

@@ -23,43 +23,33 @@ const FIRST_SEED: u64 = 1;
 const FULL_RUN: u64 = 300_000;
 const LEAST_FULL_RUN: u64 = 100_000;
 
-/// A call: its name, its share of the cases, its case, and every number that document 01 lets it give.
+/// Every call with the numbers that it can give, a call a line.
+const NUMBERS: &str = include_str!("../../../../tests/numbers.txt");
+
+/// A call: its name, its share of the cases, and its case.
 struct Call {
     name: &'static str,
     share: usize,
     case: fn(&mut Random, Profile) -> u8,
-    numbers: &'static [u8],
 }
 
-const fn call(
-    name: &'static str,
-    share: usize,
-    case: fn(&mut Random, Profile) -> u8,
-    numbers: &'static [u8],
-) -> Call {
-    Call {
-        name,
-        share,
-        case,
-        numbers,
-    }
+const fn call(name: &'static str, share: usize, case: fn(&mut Random, Profile) -> u8) -> Call {
+    Call { name, share, case }
 }
 
-// One call a line.
-#[rustfmt::skip]
 const CALLS: [Call; 12] = [
-    call("build_table", 6, cases::build, &[0, 1, 2, 3, 9]),
-    call("shipped_table", 2, cases::shipped, &[0, 2, 9]),
-    call("index_of_word", 15, cases::index, &[0, 1, 2, 3, 5, 6, 7, 10, 11]),
-    call("word_of_index", 15, cases::word, &[0, 1, 2, 3, 5, 6, 9, 12]),
-    call("write_stream", 15, cases::write, &[0, 1, 2, 3, 4, 5, 6, 7, 8, 9]),
-    call("read_stream", 20, cases::read, &[0, 1, 2, 3, 4, 5, 6, 7, 9, 10, 11, 13, 14, 15]),
-    call("join_streams", 10, cases::join, &[0, 1, 2, 3, 7, 9, 10, 11, 13]),
-    call("turn_stream", 6, cases::turn, &[0, 1, 2, 3, 7, 9, 10, 11, 13]),
-    call("find_pattern", 4, cases::find, &[0, 1, 3, 7, 10, 11]),
-    call("published_profile", 1, cases::published, &[0, 12]),
-    call("rate_of_words", 4, cases::rate, &[0, 1, 2, 3, 4, 5, 6, 7]),
-    call("list_code", 2, cases::list, &[0, 9]),
+    call("build_table", 6, cases::build),
+    call("shipped_table", 2, cases::shipped),
+    call("index_of_word", 15, cases::index),
+    call("word_of_index", 15, cases::word),
+    call("write_stream", 15, cases::write),
+    call("read_stream", 20, cases::read),
+    call("join_streams", 10, cases::join),
+    call("turn_stream", 6, cases::turn),
+    call("find_pattern", 4, cases::find),
+    call("published_profile", 1, cases::published),
+    call("rate_of_words", 4, cases::rate),
+    call("list_code", 2, cases::list),
 ];
 
 #[test]
@@ -75,7 +65,8 @@ fn the_archive_answers_as_the_peer() {
     println!("{compared} cases from seed {first}");
     assert_eq!(compared, cases);
     if cases >= LEAST_FULL_RUN {
-        let expected: BTreeSet<_> = CALLS.iter().flat_map(numbers_of).collect();
+        let lines = NUMBERS.lines().filter(|line| !line.starts_with('#'));
+        let expected: BTreeSet<_> = lines.flat_map(numbers_of).collect();
         assert_eq!(met.into_keys().collect::<BTreeSet<_>>(), expected);
     }
 }
@@ -94,9 +85,11 @@ fn compare(seed: &Seed) -> (&'static str, u8) {
     unreachable!("a draw is below the sum of the shares")
 }
 
-/// Each number that a call can give, with the call's name.
-fn numbers_of(call: &'static Call) -> impl Iterator<Item = (&'static str, u8)> {
-    call.numbers.iter().map(|&number| (call.name, number))
+/// Each number of a line of numbers, with the call's name.
+fn numbers_of(line: &'static str) -> impl Iterator<Item = (&'static str, u8)> {
+    let mut words = line.split_whitespace();
+    let call = words.next().expect("a line names its call");
+    words.map(move |number| (call, number.parse().expect("a number follows")))
 }
 
 /// The number in an environment variable, or the usual one where it is not set.
