@@ -1,6 +1,7 @@
 /* Bad calls: every call with nothing lent, with profiles out of range and with numbers as large as they get.
  * Each must give its number and place, and leave what it was lent as it was. Prints how many calls were made,
- * or names the first that differs and ends with 1. */
+ * or names the first that differs and ends with 1. This is the list of bad calls; what Rust's safe calls make of
+ * a refusal is tried in rust/remizutogya/tests/bad_calls.rs. */
 #include "remizutogya.h"
 
 #include <stdio.h>
@@ -185,6 +186,7 @@ static void nothing_lent(lending l)
                       REMI_NO_MESSAGE);
         wrote_nothing("read_stream", remi_read_stream(p, l.table, 0, l.cells, 0, l.out, 0), REMI_NO_MESSAGE);
         rated_nothing("rate_of_words", remi_rate_of_words(p, l.table, 0, 0), REMI_NO_MESSAGE);
+        index_refused("index_of_word", remi_index_of_word(p, l.table, 0, l.cells, 0), REMI_TABLE_SHORT, 0);
         wrote_nothing("turn_stream", remi_turn_stream(p, l.cells, 0, l.out, 0), REMI_DONE);
     }
 }
@@ -211,12 +213,14 @@ static void one_buffer_empty(lending none)
                   REMI_OUTPUT_SHORT);
     wrote_nothing("cells of turn_stream", remi_turn_stream(GOOD, none.cells, 0, OUT), REMI_DONE);
     wrote_nothing("out of turn_stream", remi_turn_stream(GOOD, WORD, 5, none.out, 0), REMI_OUTPUT_SHORT);
+    rated_nothing("table of rate_of_words", remi_rate_of_words(GOOD, none.table, 0, SIZE_MAX),
+                  REMI_TABLE_SHORT);
 }
 
 /* Writing with a bit count and bytes of which some are missing or wrong. */
 static void bad_bits(lending none)
 {
-    static const size_t no_count[] = {1, 8, (REMI_MOST_WORDS + 1) * GOOD_BITS, SIZE_MAX,
+    static const size_t no_count[] = {1, 8, 10, (REMI_MOST_WORDS + 1) * GOOD_BITS, SIZE_MAX,
                                       SIZE_MAX - SIZE_MAX % GOOD_BITS};
     static const uint8_t good[] = {0, 0}, last_bit[] = {0, 1};
     situation = none.name;
@@ -226,11 +230,13 @@ static void bad_bits(lending none)
                   REMI_DONE);
     wrote_nothing("bytes of write_stream", remi_write_stream(GOOD, TABLE, none.cells, 0, GOOD_BITS, OUT),
                   REMI_INPUT_LENGTH);
+    wrote_nothing("one byte of write_stream", remi_write_stream(GOOD, TABLE, good, 1, GOOD_BITS, OUT),
+                  REMI_INPUT_LENGTH);
     wrote_nothing("out of write_stream", remi_write_stream(GOOD, TABLE, good, 2, GOOD_BITS, none.out, 0),
                   REMI_OUTPUT_SHORT);
     wrote_nothing_at("bit behind in write_stream",
                      remi_write_stream(GOOD, TABLE, last_bit, 2, GOOD_BITS, none.out, 0), REMI_BIT_BEHIND, 15);
-    for (size_t i = 0; i < 5; i++)
+    for (size_t i = 0; i < sizeof no_count / sizeof no_count[0]; i++)
         wrote_nothing("bits of write_stream", remi_write_stream(GOOD, TABLE, good, 2, no_count[i], OUT),
                       REMI_INPUT_LENGTH);
 }
@@ -275,11 +281,13 @@ static void bad_cells(void)
 /* No line at all is a refused line, where there is room to say so. */
 static void no_line(const uint8_t *line)
 {
+    static const uint8_t good[] = "2 3 1\n";
     static const char refused[] = "refused line\n";
     static uint8_t text[REMI_LISTING_BYTES], right[REMI_LISTING_BYTES];
     memset(text, MARK, sizeof text);
     memset(right, MARK, sizeof right);
     wrote_nothing("list_code", remi_list_code(line, 0, text, sizeof text - 1), REMI_OUTPUT_SHORT);
+    wrote_nothing("list_code", remi_list_code(good, sizeof good - 1, text, sizeof text - 1), REMI_OUTPUT_SHORT);
     must(memcmp(text, right, sizeof text) == 0, "list_code");
 
     memcpy(right, refused, strlen(refused));

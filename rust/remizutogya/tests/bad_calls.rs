@@ -1,5 +1,5 @@
-//! Bad calls: every call with nothing lent, with profiles out of range and with numbers as large as
-//! they get. Each must give its number and place, and leave what it was lent as it was.
+//! What the safe calls make of what the archive answers: a refusal is an error with its number and place, and
+//! leaves what was lent as it was; an empty slice is lent as nothing. The list of bad calls is `c/bad_calls.c`.
 
 use remizutogya::*;
 use std::fmt::Debug;
@@ -78,26 +78,21 @@ fn all_must_refuse(number: u8, p: Profile, table: &[u64], cells: &[u8], room: us
 }
 
 #[test]
-fn profiles_out_of_range() {
+fn profile_out_of_range() {
     let table = good_table();
-    let profile = |number, p| {
+    let far = usize::MAX;
+    let refused = [
+        (Error::LEVELS, Profile { q: far, ..GOOD }),
+        (Error::LENGTH, Profile { m: far, ..GOOD }),
+        (Error::REACH, Profile { x: far, ..GOOD }),
+    ];
+    for (number, p) in refused {
         all_must_refuse(number, p, &table, &WORD, table.len());
         all_must_refuse(number, p, &[], &[], 0);
-    };
-    for q in [0, 1, 33, usize::MAX] {
-        profile(Error::LEVELS, Profile { q, ..GOOD });
-        profile(Error::LEVELS, Profile { q, m: 0, x: 9 });
-        must_refuse(Error::LEVELS, 0, [find_pattern(q, 0, &WORD)]);
     }
-    for m in [0, 129, usize::MAX] {
-        profile(Error::LENGTH, Profile { m, ..GOOD });
-        profile(Error::LENGTH, Profile { m, x: 0, ..GOOD });
-        must_refuse(Error::LENGTH, 0, [shipped_table(m, &mut [])]);
-    }
-    for x in [0, 9, usize::MAX] {
-        profile(Error::REACH, Profile { x, ..GOOD });
-        must_refuse(Error::REACH, 0, [find_pattern(4, x, &WORD)]);
-    }
+    must_refuse(Error::LENGTH, 0, [shipped_table(far, &mut [])]);
+    must_refuse(Error::LEVELS, 0, [find_pattern(far, 0, &WORD)]);
+    must_refuse(Error::REACH, 0, [find_pattern(4, far, &WORD)]);
 }
 
 #[test]
@@ -116,37 +111,16 @@ fn nothing_lent() {
     must_refuse(Error::TABLE_SHORT, 0, without_table);
     must_refuse(Error::TABLE_SHORT, 0, [index_of_word(GOOD, &[], &[])]);
     must_refuse(Error::TABLE_SHORT, 0, [rate_of_words(GOOD, &[], 0)]);
+    let silent = Profile { q: 2, m: 1, x: 1 };
+    must_refuse(Error::NO_MESSAGE, 0, [rate_of_words(silent, &[], 0)]);
     assert_eq!(join_streams(GOOD, &[], &[], &mut []), Ok(0));
     assert_eq!(turn_stream(GOOD, &[], &mut []), Ok(0));
     assert_eq!(find_pattern(4, 1, &[]), Ok(()));
 }
 
 #[test]
-fn no_words_carry_messages() {
-    for p in [Profile { q: 2, m: 1, x: 1 }, Profile { q: 3, m: 1, x: 8 }] {
-        let on_messages = [
-            write_stream(p, &[], &[], 0, &mut []),
-            read_stream(p, &[], &[], &mut []),
-        ];
-        must_refuse(Error::NO_MESSAGE, 0, on_messages);
-        must_refuse(Error::NO_MESSAGE, 0, [rate_of_words(p, &[], 0)]);
-        must_refuse(Error::TABLE_SHORT, 0, [index_of_word(p, &[], &[])]);
-        assert_eq!(turn_stream(p, &[], &mut []), Ok(0));
-    }
-}
-
-#[test]
 fn one_slice_empty() {
     let table = good_table();
-    let mut out = Output::of(WORD.len());
-    let without_table = [
-        word_of_index(GOOD, &[], Index::from(0), out.lent()),
-        write_stream(GOOD, &[], &[0, 0], GOOD_BITS, out.lent()),
-        read_stream(GOOD, &[], &WORD, out.lent()),
-    ];
-    must_refuse(Error::TABLE_SHORT, 0, without_table);
-    must_refuse(Error::TABLE_SHORT, 0, [index_of_word(GOOD, &[], &WORD)]);
-    must_refuse(Error::INPUT_LENGTH, 0, [index_of_word(GOOD, &table, &[])]);
     let without_room = [
         word_of_index(GOOD, &table, all_ones(), &mut []),
         write_stream(GOOD, &table, &[0, 0], GOOD_BITS, &mut []),
@@ -155,36 +129,35 @@ fn one_slice_empty() {
         turn_stream(GOOD, &WORD, &mut []),
     ];
     must_refuse(Error::OUTPUT_SHORT, 0, without_room);
-    assert_eq!(read_stream(GOOD, &table, &[], out.lent()), Ok(0));
-    assert_eq!(turn_stream(GOOD, &[], out.lent()), Ok(0));
-    out.must_hold(&[]);
-}
-
-#[test]
-fn one_stream_empty() {
+    must_refuse(Error::INPUT_LENGTH, 0, [index_of_word(GOOD, &table, &[])]);
     let streams: [(&[u8], &[u8]); 2] = [(&[], &WORD), (&WORD, &[])];
     for (first, second) in streams {
         let mut out = Output::of(WORD.len() + 1);
         assert_eq!(join_streams(GOOD, first, second, out.lent()), Ok(5));
         out.must_hold(&WORD);
     }
+    let mut out = Output::of(WORD.len());
+    assert_eq!(read_stream(GOOD, &table, &[], out.lent()), Ok(0));
+    assert_eq!(write_stream(GOOD, &table, &[], 0, out.lent()), Ok(0));
+    out.must_hold(&[]);
 }
 
 #[test]
-fn bits_that_cannot_be_written() {
+fn one_place_wrong() {
     let table = good_table();
-    let mut out = Output::of(WORD.len());
-    let too_many = (MOST_WORDS + 1) * GOOD_BITS;
-    let last_multiple = usize::MAX - usize::MAX % GOOD_BITS;
-    for bits in [1, 8, 10, too_many, last_multiple, usize::MAX] {
-        let written = write_stream(GOOD, &table, &[0, 0], bits, out.lent());
-        must_refuse(Error::INPUT_LENGTH, 0, [written]);
-    }
-    let not_there = write_stream(GOOD, &table, &[0], GOOD_BITS, out.lent());
-    must_refuse(Error::INPUT_LENGTH, 0, [not_there]);
-    let last_bit = write_stream(GOOD, &table, &[0, 1], GOOD_BITS, &mut []);
+    let (above, pattern) = ([0, 0, 4, 0, 0], [1, 3, 0, 3, 1]);
+    let index =
+        |x, table: &[u64], cells: &[u8]| [index_of_word(Profile { x, ..GOOD }, table, cells)];
+    must_refuse(Error::TABLE_WRONG, 4, index(2, &table, &WORD));
+    must_refuse(Error::CELL, 2, index(1, &table, &above));
+    must_refuse(Error::PATTERN, 1, index(1, &table, &pattern));
+    must_refuse(Error::PATTERN, 1, [find_pattern(4, 1, &pattern)]);
+
+    let mut out = Output::of(2 * WORD.len() + GOOD.x);
+    let joined = join_streams(GOOD, &pattern, &above, out.lent());
+    must_refuse(Error::CELL, 7, [joined]);
+    let last_bit = write_stream(GOOD, &table, &[0, 1], GOOD_BITS, out.lent());
     must_refuse(Error::BIT_BEHIND, 15, [last_bit]);
-    assert_eq!(write_stream(GOOD, &table, &[], 0, out.lent()), Ok(0));
     out.must_hold(&[]);
 }
 
@@ -196,126 +169,29 @@ fn numbers_too_large() {
         let word = word_of_index(GOOD, &table, index, out.lent());
         must_refuse(Error::NO_SUCH, 0, [word]);
     }
+    for bits in [(MOST_WORDS + 1) * GOOD_BITS, usize::MAX] {
+        let written = write_stream(GOOD, &table, &[0, 0], bits, out.lent());
+        must_refuse(Error::INPUT_LENGTH, 0, [written]);
+    }
     out.must_hold(&[]);
     let rates = [MOST_WORDS + 1, usize::MAX].map(|n| rate_of_words(GOOD, &table, n));
     must_refuse(Error::INPUT_LENGTH, 0, rates);
     let rows = [PUBLISHED_ROWS, usize::MAX].map(published_profile);
     must_refuse(Error::NO_SUCH, 0, rows);
+    let run = vec![0; MOST_FOUND_CELLS + 1];
+    assert_eq!(find_pattern(4, 1, &run[1..]), Ok(()));
+    must_refuse(Error::INPUT_LENGTH, 0, [find_pattern(4, 1, &run)]);
     assert_eq!(table_limbs(usize::MAX), usize::MAX);
     assert_eq!(stream_cells(GOOD, usize::MAX), usize::MAX);
 }
 
 #[test]
-fn one_place_wrong() {
-    let table = good_table();
-    let (above, pattern) = ([0, 0, 4, 0, 0], [1, 3, 0, 3, 1]);
-    let index =
-        |x, table: &[u64], cells: &[u8]| [index_of_word(Profile { x, ..GOOD }, table, cells)];
-    must_refuse(Error::TABLE_SHORT, 0, index(1, &table[1..], &WORD));
-    must_refuse(Error::TABLE_WRONG, 4, index(2, &table, &WORD));
-    must_refuse(Error::INPUT_LENGTH, 0, index(1, &table, &WORD[1..]));
-    must_refuse(Error::CELL, 2, index(1, &table, &above));
-    must_refuse(Error::PATTERN, 1, index(1, &table, &pattern));
-
-    let mut out = Output::of(2 * WORD.len() + GOOD.x);
-    let turned = turn_stream(GOOD, &WORD[1..], out.lent());
-    must_refuse(Error::INPUT_LENGTH, 0, [turned]);
-    let joined = join_streams(GOOD, &pattern, &above, out.lent());
-    must_refuse(Error::CELL, 7, [joined]);
-    out.must_hold(&[]);
-}
-
-#[test]
-fn too_many_cells_to_find_in() {
-    let run = vec![0; MOST_FOUND_CELLS + 1];
-    assert_eq!(find_pattern(4, 1, &run[1..]), Ok(()));
-    must_refuse(Error::INPUT_LENGTH, 0, [find_pattern(4, 1, &run)]);
-}
-
-#[test]
 fn no_line_to_list() {
     let mut short = Output::of(LISTING_BYTES - 1);
-    must_refuse(
-        Error::OUTPUT_SHORT,
-        0,
-        [list_code(b"2 3 1\n", short.lent())],
-    );
+    let listed = list_code(b"2 3 1\n", short.lent());
+    must_refuse(Error::OUTPUT_SHORT, 0, [listed]);
     short.must_hold(&[]);
     let mut text = Output::of(LISTING_BYTES);
     assert_eq!(list_code(&[], text.lent()), Ok(13));
     text.must_hold(b"refused line\n");
-}
-
-/// The archive's own calls with null pointers and lengths of 0.
-mod null {
-    use super::GOOD;
-    use remizutogya::raw::*;
-    use remizutogya::{Error, Index};
-    use std::ptr::{null, null_mut};
-
-    const DONE: u8 = 0;
-
-    fn must_reply(number: u8, reply: Reply) {
-        assert_eq!(reply, Reply { number, place: 0 });
-    }
-
-    fn must_write_nothing(number: u8, written: Written) {
-        must_reply(number, written.reply);
-        assert_eq!(written.count, 0);
-    }
-
-    #[test]
-    fn without_table() {
-        // SAFETY: every length is 0.
-        let writing = unsafe {
-            [
-                remi_word_of_index(GOOD, null(), 0, Index::from(0), null_mut(), 0),
-                remi_write_stream(GOOD, null(), 0, null(), 0, 0, null_mut(), 0),
-                remi_read_stream(GOOD, null(), 0, null(), 0, null_mut(), 0),
-            ]
-        };
-        for written in writing {
-            must_write_nothing(Error::TABLE_SHORT, written);
-        }
-        // SAFETY: every length is 0.
-        let indexed = unsafe { remi_index_of_word(GOOD, null(), 0, null(), 0) };
-        must_reply(Error::TABLE_SHORT, indexed.reply);
-        assert_eq!(indexed.index, Index::from(0));
-        // SAFETY: the length is 0.
-        let rated = unsafe { remi_rate_of_words(GOOD, null(), 0, usize::MAX) };
-        must_reply(Error::TABLE_SHORT, rated.reply);
-        assert_eq!((rated.bits, rated.cells), (0, 0));
-    }
-
-    #[test]
-    fn without_room() {
-        // SAFETY: every length is 0.
-        let writing = unsafe {
-            [
-                remi_build_table(GOOD, null_mut(), 0),
-                remi_shipped_table(GOOD.m, null_mut(), 0),
-                remi_list_code(null(), 0, null_mut(), 0),
-            ]
-        };
-        for written in writing {
-            must_write_nothing(Error::OUTPUT_SHORT, written);
-        }
-    }
-
-    #[test]
-    fn without_cells() {
-        // SAFETY: every length is 0.
-        let writing = unsafe {
-            [
-                remi_join_streams(GOOD, null(), 0, null(), 0, null_mut(), 0),
-                remi_turn_stream(GOOD, null(), 0, null_mut(), 0),
-            ]
-        };
-        for written in writing {
-            must_write_nothing(DONE, written);
-        }
-        // SAFETY: the length is 0.
-        let found = unsafe { remi_find_pattern(GOOD.q, GOOD.x, null(), 0) };
-        must_reply(DONE, found);
-    }
 }
