@@ -1,6 +1,6 @@
 """The cases of the calls on streams."""
 
-from itertools import product
+from itertools import product, starmap
 from random import Random
 
 import second
@@ -97,7 +97,7 @@ def story():
 def lowest_numbers():
     """Each number of each call with its place, and the lowest where several apply."""
     edges = product((1, 2, 32, 33), (0, 1, 128, 129), (0, 1, 8, 9))
-    for p in map(Profile._make, (*edges, (LARGE, LARGE, LARGE), (32, LARGE, LARGE), (32, 128, LARGE))):
+    for p in starmap(Profile, (*edges, (LARGE, LARGE, LARGE), (32, LARGE, LARGE), (32, 128, LARGE))):
         fits = second.refused_profile(p) is None
         table = Table(p) if fits else Table(SMALL)
         write(p, [255], 3, 0, table)
@@ -191,7 +191,7 @@ def drawn_streams(times):
 def long_streams():
     for row in (0, 4, 9, 14, 19, 39):
         long_stream(second.ROWS[row].profile, 7 + row, 8)
-    for p in map(Profile._make, ((4, 97, 1), (4, 14, 1), (32, 128, 8), (2, 128, 1))):
+    for p in starmap(Profile, ((4, 97, 1), (4, 14, 1), (32, 128, 8), (2, 128, 1))):
         for words in (128, 256, 257):
             long_stream(p, words, words)
         long_stream(p, 5, 128, 127 * (p.m + p.x) + p.m // 2, p.q)

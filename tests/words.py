@@ -1,6 +1,6 @@
 """The cases of the calls on tables, words, runs of cells and profiles."""
 
-from itertools import product
+from itertools import product, starmap
 from random import Random
 
 import second
@@ -52,7 +52,7 @@ def rate(p, n, table=None):
     case("rate_of_words", f"{profile(p)} {table.text} words {n}", *second.rate(p, table.limbs, n))
 
 
-EDGES = [Profile(*edge) for edge in product((1, 2, 32, 33), (0, 1, 128, 129), (0, 1, 8, 9))]
+EDGES = list(starmap(Profile, product((1, 2, 32, 33), (0, 1, 128, 129), (0, 1, 8, 9))))
 LARGEST = [Profile(LARGE, LARGE, LARGE), Profile(32, LARGE, LARGE), Profile(32, 128, LARGE)]
 SMALL, SHORT = Profile(2, 3, 1), Profile(4, 5, 1)
 ROOM = 1303

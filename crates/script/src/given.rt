@@ -1,5 +1,4 @@
 // What a case gives to a call: a profile, a table, an index.
-ghost use Rattle.word_of_index.specs.Spelling.{Given};
 use replies::Profile;
 use std::num::wrapping_add_u64;
 

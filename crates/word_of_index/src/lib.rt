@@ -7,7 +7,6 @@ ghost use lib.Dec.{leb};
 ghost use lib.ListN.{length, take, drop};
 ghost use Rattle.limbs.specs.Limbs.{value, numberAt, holding};
 ghost use Rattle.patterns.specs.Walk.{guardAfter};
-ghost use Rattle.code.specs.Code.{word};
 ghost use Rattle.replies.specs.Ranges.{InRange};
 ghost use Rattle.profiles.specs.Profiles.{patternsOf, wordCount, wordFor};
 ghost use Rattle.tables.specs.Tables.{Belongs};
