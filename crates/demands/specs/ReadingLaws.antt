@@ -3,24 +3,24 @@ use mathlib.Core.Path.{_≡_, refl, ap, _∙_}
 use mathlib.Core.Bool.{true}
 use mathlib.Core.List.{List, [], _∷_, _++_, append-assoc, map, map-append}
 use Prim.Native.Nat.{ℕ, _*_, _≤_}
-use lib.ListN.{length, take, length-map}
+use lib.ListN.{length, length-map}
 use borrow.Author.Tests.{eqb-true, eq-eqb}
 use Rattle.messages.specs.Carrying.{carryingRefusal}
 use Rattle.messages.specs.CarryingLaws.{carries-messages}
 use Rattle.replies.specs.declared.Profile.{Profile}
-use Rattle.replies.specs.Replies.{orElse}
+use Rattle.replies.specs.Replies.{done, orElse}
 use Rattle.replies.specs.ReplyLaws.{both-done, has-room, room-enough}
 use Rattle.replies.specs.Ranges.{InRange, mostWords}
 use Rattle.listing.specs.Every.{every}
 use Rattle.profiles.specs.Profiles.{lengthOf}
 use Rattle.bits.specs.Bits.{bytesFor, packed, bitsOfMessages}
 use Rattle.bits.specs.RoundTrip.{length-bitsOfMessages}
-use Rattle.streams.specs.Streams.{Stream, wordsIn, wordsOf, partRefusal}
+use Rattle.streams.specs.Streams.{Stream, wordsIn, wordsOf, streamRefusal}
 use Rattle.streams.specs.FitLaws.{not-refused-fits, fits-not-refused}
-use Rattle.streams.specs.EachLaws.{each-implies, each-of-both, each-word, every-word, each-done, throughout-done}
-use Rattle.streams.specs.AcceptedLaws.{stream-count, words-found, parts-accepted, accepted-parts}
+use Rattle.streams.specs.EachLaws.{each-implies, each-word, every-word, each-done, throughout-done}
+use Rattle.streams.specs.AcceptedLaws.{stream-count, words-found, stream-accepted, accepted-stream}
 use Rattle.streams.specs.JoinedLaws.{stream-fits}
-use Rattle.read_stream.specs.Reading.{readPartRefusal, bitsIn, readRefusal, bitsRead, readingStream}
+use Rattle.read_stream.specs.Reading.{silentFirst, silenceRefusal, bitsIn, readRefusal, bitsRead, readingStream}
 use Rattle.demands.specs.Outcomes.{Done, doneWith, carriesMessage, messageCarried}
 use Rattle.demands.specs.OutcomeLaws.{not-refused, four-tests-done}
 
@@ -28,11 +28,6 @@ messages-append : (s : ℕ) (a b : List ℕ) → bitsOfMessages s (a ++ b) ≡ b
 unfolding bitsOfMessages
 messages-append s [] b = refl
 messages-append s (v ∷ a) b = rw (messages-append s a b, append-assoc)
-
-read-part-done : (p : Profile) (part : List ℕ) → partRefusal p part .number ≡ 0 → carriesMessage p (take (p .m) part) ≡ true
-    → readPartRefusal p part .number ≡ 0
-unfolding readPartRefusal orElse
-read-part-done p part e carries = rw (eq-eqb (partRefusal p part .number) 0 e) (eqb-true _ 0 carries)
 
 module _ (p : Profile) (range : InRange p) where
   -- The bits of a stream are those of the messages that its words carry.
@@ -54,7 +49,7 @@ module _ (p : Profile) (range : InRange p) where
 pub reading-done : (p : Profile) (table : List ℕ) → carryingRefusal p table .number ≡ 0 → {u : List (List ℕ)} {a : List ℕ} → Stream p u a
     → every (carriesMessage p) u ≡ true → length u ≤ mostWords → (lent : List ℕ) → bytesFor (length u * lengthOf p) ≤ length lent
     → readingStream p table a lent ≡ doneWith (length (bitsRead p a)) (packed (bitsRead p a)) lent
-unfolding readingStream readRefusal
+unfolding readingStream readRefusal silenceRefusal orElse
 reading-done p table ready {u} {a} s carry few lent room =
     let range = carries-messages p table refl ready .inRange in
     let count = stream-count p range u a s in
@@ -62,18 +57,10 @@ reading-done p table ready {u} {a} s carry few lent room =
     let fit = fits-not-refused p (length a) (stream-fits p range s few) in
     let enough = room-enough (bytesFor (bitsIn p (length a))) (length lent) (rw count room) in
     let words = each-word p (carriesMessage p) n a (rw (words-found p range u a s) carry) in
-    let cells = throughout-done p (readPartRefusal p) n 0 a (each-of-both p (read-part-done p) n a (parts-accepted p range u a s) words) in
+    let heard = throughout-done p (silentFirst p) n 0 a (each-implies p (λ t. eqb-true _ 0) n a words) in
+    let cells : orElse (streamRefusal p a) (silenceRefusal p a) ≡ done = rw (stream-accepted p range u a s) heard in
     let counted : bitsIn p (length a) ≡ length (bitsRead p a) = rw (count, read-count p range s) in
     four-tests-done _ _ lent ready fit enough cells ∙ ap (λ (n : ℕ). doneWith n (packed (bitsRead p a)) lent) counted
-
--- What reading accepts from a word on, 10, 11 and 13 accept, and the word carries a message.
-part-done : (p : Profile) (part : List ℕ) → readPartRefusal p part .number ≡ 0 → partRefusal p part .number ≡ 0
-unfolding readPartRefusal
-part-done p part e = both-done _ _ e .first
-
-part-carries : (p : Profile) (part : List ℕ) → readPartRefusal p part .number ≡ 0 → carriesMessage p (take (p .m) part) ≡ true
-unfolding readPartRefusal
-part-carries p part e = eq-eqb _ 0 (both-done _ _ e .second)
 
 -- What reading asks: words that carry messages and a table that belongs, a stream of at most 256 words that carry messages, and room for its bits.
 pub record Readable (p : Profile) (table cells lent : List ℕ) : Type 0 where
@@ -85,7 +72,7 @@ pub record Readable (p : Profile) (table cells lent : List ℕ) : Type 0 where
 
 -- Reading that is done has what it asks.
 pub done-readable : {p : Profile} {table cells lent : List ℕ} → Done (readingStream p table cells lent) → Readable p table cells lent
-unfolding readingStream readRefusal
+unfolding readingStream readRefusal silenceRefusal
 done-readable {p} {table} {cells} e =
     let first = both-done _ _ (not-refused _ _ _ _ e) in
     let second = both-done _ _ (first .second) in
@@ -93,13 +80,14 @@ done-readable {p} {table} {cells} e =
     let range = carries-messages p table refl (first .first) .inRange in
     let n = wordsIn p (length cells) in
     let fits = not-refused-fits p (length cells) refl (second .first) in
-    let each = each-done p (readPartRefusal p) n 0 cells (third .second) in
-    let stream = accepted-parts p range cells (fits .exact) (each-implies p (part-done p) n cells each) in
+    let fourth = both-done _ _ (third .second) in
+    let stream = accepted-stream p range cells (fits .exact) (fourth .first) in
+    let heard = each-done p (silentFirst p) n 0 cells (fourth .second) in
     let count = stream-count p range _ cells stream in
     record {
       ready = first .first;
       stream = stream;
-      carry = every-word p (carriesMessage p) n cells (each-implies p (part-carries p) n cells each);
+      carry = every-word p (carriesMessage p) n cells (each-implies p (λ t. eq-eqb _ 0) n cells heard);
       few = rw (← count) (fits .few);
       room = rw (← count) (has-room _ _ (third .first));
     }

@@ -2,27 +2,25 @@
 use mathlib.Core.Path.{_≡_, refl, sym, _∙_}
 use mathlib.Core.Bool.{false, true≢false}
 use mathlib.Core.List.{List}
-use Prim.Native.Nat.{ℕ, zero, suc, _≤_, _<_}
+use Prim.Native.Nat.{ℕ, _≤_, _<_}
 use native.Mathlib.Nat.{pos-of-ne-zero}
-use native.Mathlib.Omega.{arith}
 use lib.Dec.{eqb}
-use lib.ListN.{length, take, drop}
-use lib.Seq.{take-all}
+use lib.ListN.{length, take}
 use Rattle.replies.specs.declared.Profile.{Profile}
 use Rattle.replies.specs.ReplyLaws.{both-done, test-failed}
-use Rattle.replies.specs.LowestLaws.{lowest-done, moved-done}
 use Rattle.replies.specs.Ranges.{InRange}
 use Rattle.numbers.specs.Step.{firstIndex}
 use Rattle.listing.specs.Every.{every}
 use Rattle.listing.specs.EveryLaws.{every-replicate}
 use Rattle.code.specs.Code.{LegalWord, index}
 use Rattle.code.specs.Laws.{zeros-only}
-use Rattle.profiles.specs.Profiles.{stride, streamLength, LegalFor, indexFor}
-use Rattle.streams.specs.Streams.{wordsIn, throughout}
-use Rattle.streams.specs.PartLaws.{throughout-step, rest-exact}
-use Rattle.streams.specs.AcceptedLaws.{part-word}
-use Rattle.read_stream.specs.Reading.{silentRefusal, readPartRefusal}
-use Rattle.read_stream.specs.TestLaws.{word-inside, readRefusalFrom}
+use Rattle.profiles.specs.Profiles.{isWord, LegalFor, indexFor}
+use Rattle.streams.specs.Streams.{wordsIn, streamRefusal}
+use Rattle.streams.specs.FitLaws.{Fits}
+use Rattle.streams.specs.EachLaws.{each-implies, each-of-both, each-word, each-done}
+use Rattle.streams.specs.AcceptedLaws.{word-legal, accepted-stream}
+use Rattle.read_stream.specs.Reading.{silentRefusal, silentFirst, silenceRefusal}
+use Rattle.read_stream.specs.WordLaws.{EachWord}
 
 -- A word that carries a message.
 pub record Carrier (p : Profile) (w : List ℕ) : Type 0 where
@@ -34,40 +32,28 @@ not-zeros : (q x m : ℕ) (w : List ℕ) → 1 < q → LegalWord q x m w → eve
 not-zeros q x m w l r other =
     pos-of-ne-zero (λ none. true≢false (sym (every-replicate (λ c. eqb c 0) m 0 refl) ∙ rw (zeros-only q x m w l r none) at other))
 
--- A word that passes all tests carries a message.
-pub passed-carries : {p : Profile} (part : List ℕ) → InRange p → p .m ≤ length part → readPartRefusal p part .number ≡ 0 → Carrier p (take (p .m) part)
-unfolding readPartRefusal silentRefusal
-passed-carries {p} part range inside none =
-    let both = both-done _ _ none in
-    let word = part-word p part inside refl (both .first) in
-    let other = test-failed _ 13 (both-done _ _ (both .second) .first) in
-    record { word = word; first = not-zeros (p .q) (p .x) (p .m) _ (range .levels .least) word other }
+-- A legal word that 14, 15, 16 do not refuse carries a message.
+not-silent-carries : {p : Profile} → InRange p → (w : List ℕ) → LegalFor p w → silentRefusal p w .number ≡ 0 → Carrier p w
+unfolding silentRefusal
+not-silent-carries {p} range w word none =
+    let other = test-failed _ 13 (both-done _ _ none .first) in
+    record { word = word; first = not-zeros (p .q) (p .x) (p .m) w (range .levels .least) word other }
 
--- A part of a stream whose words pass all tests, which count its places from some place on.
-pub record Readable (p : Profile) (part : List ℕ) : Type 0 where
-  pub exact : length part ≡ streamLength p (wordsIn p (length part))
-  pub place : ℕ
-  pub passed : readRefusalFrom p place part .number ≡ 0
+module _ {p : Profile} (cells : List ℕ) (range : InRange p) (fits : Fits p (length cells)) where
+  -- The words of a stream that 10, 11, 13 do not refuse are legal, ..
+  pub words-legal : streamRefusal p cells .number ≡ 0 → EachWord p (LegalFor p) cells
+  words-legal none =
+      let n = wordsIn p (length cells) in
+      let words = each-word p (isWord p) n cells (accepted-stream p range cells (fits .exact) none .legal) in
+      record { exact = fits .exact; each = each-implies p (λ t. word-legal p (take (p .m) t)) n cells words }
 
-first-passed : (p : Profile) (part : List ℕ) (n place : ℕ) → length part ≡ streamLength p n → 0 < length part
-    → throughout p (readPartRefusal p) n place part .number ≡ 0 → readPartRefusal p part .number ≡ 0
-unfolding throughout
-first-passed p part zero place exact some none = absurd (omega arith)
-first-passed p part (suc n) place exact some none = moved-done place (readPartRefusal p part) (lowest-done _ _ none .first)
-
-module _ {p : Profile} (part : List ℕ) (range : InRange p) (r : Readable p part) where
-  -- Its first word carries a message, ..
-  pub first-carries : 0 < length part → Carrier p (take (p .m) part)
-  first-carries some =
-      let passed = first-passed p part (wordsIn p (length part)) (r .place) (r .exact) some (r .passed) in
-      passed-carries part range (word-inside p (length part) (r .exact) some) passed
-
-  -- .. which is the whole part where it is the last, ..
-  pub last-carries : 0 < length part → length part ≤ p .m → Carrier p part
-  last-carries some last = rw (take-all (p .m) part last) at (first-carries some)
-
-  -- .. and the part behind the word and its bridge is such a part.
-  pub rest-readable : p .m < length part → Readable p (drop (stride p) part)
-  rest-readable more =
-      let passed = rw (throughout-step p (readPartRefusal p) (r .place) part range (r .exact) more) at (r .passed) in
-      record { exact = rest-exact p part range (r .exact) more; place = _; passed = lowest-done _ _ passed .second }
+  -- .. and where 14, 15, 16 do not refuse them either, they carry messages.
+  pub words-carry : streamRefusal p cells .number ≡ 0 → silenceRefusal p cells .number ≡ 0 → EachWord p (Carrier p) cells
+  unfolding silenceRefusal
+  words-carry none heard =
+      let n = wordsIn p (length cells) in
+      let silent = each-done p (silentFirst p) n 0 cells heard in
+      record {
+        exact = fits .exact;
+        each = each-of-both p (λ t. not-silent-carries range (take (p .m) t)) n cells (words-legal none .each) silent;
+      }

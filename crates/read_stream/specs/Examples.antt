@@ -14,8 +14,8 @@ use Rattle.code.specs.Messages.{messageLength}
 use Rattle.cells.specs.Finding.{cellRefusal, patternRefusal}
 use Rattle.tables.specs.Tables.{tableRefusal, tableOf, rowsBelow}
 use Rattle.bits.specs.Bits.{bitsOf, numberOf, packedInto, bitsOfMessages}
-use Rattle.streams.specs.Streams.{wordsIn, fitRefusal, firstWords, bridgeRefusal, partRefusal, throughout}
-use Rattle.read_stream.specs.Reading.{silentRefusal, readPartRefusal, readRefusal, bitsRead, readingStream}
+use Rattle.streams.specs.Streams.{wordsIn, fitRefusal, firstWords, bridgeRefusal, partRefusal, throughout, streamRefusal}
+use Rattle.read_stream.specs.Reading.{silentRefusal, silenceRefusal, readRefusal, bitsRead, readingStream}
 
 -- Reading where q = 2, m = 3 and x = 1. There are seven words, and messages have two bits.
 abbrev asked : List ℕ → List ℕ → Outcome
@@ -40,7 +40,7 @@ pub record Outcomes : Type 0 where
       readingStream (profileOf 2 4 1) (tableOf (profileOf 2 4 2)) (0 ∷ 0 ∷ 0 ∷ 1 ∷ []) (9 ∷ []) ≡ answered (refused 6 4) 0 (9 ∷ [])
 
 pub outcomes : Outcomes
-unfolding readingStream readRefusal readPartRefusal silentRefusal bitsRead writingCounted orElse movedBy lowest profileRefusal outsideRefusal roomRefusal
+unfolding readingStream readRefusal streamRefusal silenceRefusal silentRefusal bitsRead writingCounted orElse movedBy lowest profileRefusal outsideRefusal roomRefusal
     carryingRefusal messageRefusal tableRefusal refusedAtFirst rowsBelow fitRefusal wordsIn firstWords throughout partRefusal bridgeRefusal bridge
     cellRefusal patternRefusal messageLength index indexIn N legal countOf listed allWords before patternFree value limbsOf numberAt bitsOf numberOf
     packedInto bitsOfMessages

@@ -5,6 +5,7 @@ pub mod WalkLaws
 pub mod PowerLimbs
 pub mod LimitLaws
 pub mod SilentLaws
+pub mod WordLaws
 pub mod TestLaws
 pub mod CarrierLaws
 pub mod OutputLaws

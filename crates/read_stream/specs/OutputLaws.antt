@@ -24,7 +24,8 @@ use Rattle.bits.specs.WithLaws.{with-bits-more}
 use Rattle.streams.specs.Streams.{wordsIn, firstWords}
 use Rattle.streams.specs.FitLaws.{no-word, last-word, rest-of}
 use Rattle.read_stream.specs.Reading.{bitsIn, bitsRead}
-use Rattle.read_stream.specs.CarrierLaws.{Carrier, Readable}
+use Rattle.read_stream.specs.WordLaws.{EachWord}
+use Rattle.read_stream.specs.CarrierLaws.{Carrier}
 
 -- What is found once for all words: the table belongs to the profile, the limbs in use of its row m, the message length.
 pub record Found (p : Profile) (table : List ℕ) (used s : ℕ) : Type 0 where
@@ -88,7 +89,7 @@ unfolding bitsRead firstWords bitsOfMessages
 bits-more p part e = rw (e, length-drop)
 
 -- A part whose words carry messages, and the place of its first bit.
-module _ {p : Profile} {table : List ℕ} {used s : ℕ} (found : Found p table used s) (part : List ℕ) (r : Readable p part) (at : ℕ) (out : List ℕ) where
+module _ {p : Profile} {table : List ℕ} {used s : ℕ} (found : Found p table used s) (part : List ℕ) (r : EachWord p (Carrier p) part) (at : ℕ) (out : List ℕ) where
   range : InRange p
   range = found .ready .inRange
 

@@ -11,7 +11,7 @@ use Rattle.numbers.specs.Step.{messageOf}
 use Rattle.listing.specs.Every.{every}
 use Rattle.profiles.specs.Profiles.{lengthOf, indexFor}
 use Rattle.bits.specs.Bits.{bytesFor, packed, bitsOfMessages}
-use Rattle.streams.specs.Streams.{wordsIn, fitRefusal, wordsOf, partRefusal, throughout}
+use Rattle.streams.specs.Streams.{wordsIn, fitRefusal, wordsOf, throughout, streamRefusal}
 
 -- 14: a word of all 0. 15: an index above 2^s. 16: a word of all top. Each at the word's first cell.
 unfoldable pub silentRefusal : Profile → List ℕ → Reply
@@ -19,20 +19,23 @@ silentRefusal p w =
     orElse (refusedIf (every (λ c. eqb c 0) w) 14)
     (orElse (refusedIf (ltb (2 ^ lengthOf p) (indexFor p w)) 15) (refusedIf (every (λ c. eqb c (p .q - 1)) w) 16))
 
--- All that reading tests from a word on: 10, 11, 13 in the word and its bridge, then 14, 15, 16 of the word.
-unfoldable pub readPartRefusal : Profile → List ℕ → Reply
-readPartRefusal p part = orElse (partRefusal p part) (silentRefusal p (take (p .m) part))
+-- 14, 15, 16 of the word that a part of a stream begins with, and of all words of a stream.
+abbrev pub silentFirst : Profile → List ℕ → Reply
+silentFirst p part = silentRefusal p (take (p .m) part)
+
+unfoldable pub silenceRefusal : Profile → List ℕ → Reply
+silenceRefusal p cells = throughout p (silentFirst p) (wordsIn p (length cells)) 0 cells
 
 -- How many bits a stream of so many cells reads as.
 abbrev pub bitsIn : Profile → ℕ → ℕ
 bitsIn p cells = wordsIn p cells * lengthOf p
 
--- The tests, in the order of their numbers: profile, message length, table, length, room for the bytes, cells.
+-- The tests, in the order of their numbers: profile, message length, table, length, room for the bytes, cells and bridges, silent words.
 unfoldable pub readRefusal : Profile → List ℕ → List ℕ → List ℕ → Reply
 readRefusal p table cells lent =
     orElse (carryingRefusal p table)
     (orElse (fitRefusal p (length cells))
-    (orElse (roomRefusal (bytesFor (bitsIn p (length cells))) (length lent)) (throughout p (readPartRefusal p) (wordsIn p (length cells)) 0 cells)))
+    (orElse (roomRefusal (bytesFor (bitsIn p (length cells))) (length lent)) (orElse (streamRefusal p cells) (silenceRefusal p cells))))
 
 -- The bits of the messages that the words carry: the message of a word is its index less one.
 unfoldable pub bitsRead : Profile → List ℕ → List ℕ

@@ -1,11 +1,10 @@
 -- Laws of reading a stream: what each test lets through, and what is written where nothing is refused.
 use mathlib.Core.Path.{_≡_, refl, _∙_}
-use mathlib.Core.Bool.{Bool, true}
-use mathlib.Core.List.{List, _++_}
+use mathlib.Core.List.{List}
 use Prim.Native.Nat.{ℕ, _*_, _≤_}
 use native.Mathlib.Nat.{le-of-lt, mul-le-mul}
 use native.Mathlib.Omega.{arith}
-use lib.ListN.{length, take}
+use lib.ListN.{length}
 use Rattle.messages.specs.Carrying.{carryingRefusal, CarriesMessages}
 use Rattle.messages.specs.LengthLaws.{length-below}
 use Rattle.replies.specs.declared.Reply.{Reply}
@@ -18,32 +17,29 @@ use Rattle.bits.specs.Bits.{bytesFor, withBits}
 use Rattle.bits.specs.WithLaws.{length-packedInto, with-bits-front}
 use Rattle.streams.specs.Streams.{wordsIn, fitRefusal, streamRefusal}
 use Rattle.streams.specs.FitLaws.{Fits, not-refused-fits}
-use Rattle.read_stream.specs.Reading.{bitsIn, readRefusal, bitsRead, readingStream}
-use Rattle.read_stream.specs.LimitLaws.{limitOf, limit-in-front}
-use Rattle.read_stream.specs.TestLaws.{Testable, readRefusalFrom}
-use Rattle.read_stream.specs.CarrierLaws.{Readable}
+use Rattle.read_stream.specs.Reading.{silenceRefusal, bitsIn, readRefusal, bitsRead, readingStream}
+use Rattle.read_stream.specs.WordLaws.{EachWord}
+use Rattle.read_stream.specs.CarrierLaws.{Carrier, words-carry}
 use Rattle.read_stream.specs.OutputLaws.{Room}
 
--- The tests behind those of profile and table: length, room for the bytes, cells.
+-- The last tests: cells and bridges, then silent words; ..
+abbrev pub wordsReadRefusal : Profile → List ℕ → Reply
+wordsReadRefusal p cells = orElse (streamRefusal p cells) (silenceRefusal p cells)
+
+-- .. and all tests behind those of profile and table: length and room for the bytes come before them.
 abbrev pub streamReadRefusal : Profile → List ℕ → ℕ → Reply
 streamReadRefusal p cells lent =
-    orElse (fitRefusal p (length cells)) (orElse (roomRefusal (bytesFor (bitsIn p (length cells))) lent) (readRefusalFrom p 0 cells))
+    orElse (fitRefusal p (length cells)) (orElse (roomRefusal (bytesFor (bitsIn p (length cells))) lent) (wordsReadRefusal p cells))
 
 -- The bits of a stream are few.
 pub bits-few : {p : Profile} {table : List ℕ} {cells n s : ℕ} → CarriesMessages p table → Fits p cells → n ≡ wordsIn p cells → s ≡ lengthOf p
     → n * s ≤ 256 * 640
 bits-few ready fits e f = rw (e, f) (mul-le-mul (fits .few) (le-of-lt (length-below (ready .inRange) (ready .carries))))
 
--- A stream that fits may be tested by a limit that was spelt.
-pub testable : {p : Profile} {table : List ℕ} {clean : Bool} (cells rest : List ℕ) {limit : List ℕ} → CarriesMessages p table → Fits p (length cells)
-    → limit ≡ limitOf p ++ rest → (clean ≡ true → streamRefusal p cells ≡ done) → Testable p (take (p .m) limit) clean cells
-testable cells rest ready fits e passed =
-    record { range = ready .inRange; limits = limit-in-front rest ready e; exact = fits .exact; passed = passed }
-
 -- What is known where nothing is refused.
 pub record Accepted (p : Profile) (cells out : List ℕ) : Type 0 where
   pub fits : Fits p (length cells)
-  pub readable : Readable p cells
+  pub words : EachWord p (Carrier p) cells
   pub room : Room (bitsIn p (length cells)) 0 out
 
 pub accepted : {p : Profile} {table : List ℕ} (cells out : List ℕ) {r : Reply} → CarriesMessages p table → r ≡ streamReadRefusal p cells (length out) → r .number ≡ 0
@@ -51,12 +47,13 @@ pub accepted : {p : Profile} {table : List ℕ} (cells out : List ℕ) {r : Repl
 accepted {p} cells out ready e none =
     let first = both-done _ _ (rw e at none) in
     let second = both-done _ _ (first .second) in
+    let third = both-done _ _ (second .second) in
     let fits = not-refused-fits p (length cells) refl (first .first) in
     let room = has-room _ (length out) (second .first) in
     let few = bits-few ready fits refl refl in
     record {
       fits = fits;
-      readable = record { exact = fits .exact; place = 0; passed = second .second };
+      words = words-carry cells (ready .inRange) fits (third .first) (third .second);
       room = record { inside = omega arith; small = omega arith };
     }
 

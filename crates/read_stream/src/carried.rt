@@ -6,7 +6,8 @@ ghost use Rattle.numbers.specs.Step.{messageOf};
 ghost use Rattle.profiles.specs.Profiles.{indexFor};
 ghost use Rattle.bits.specs.Bits.{bitsOf, withBits};
 ghost use Rattle.read_stream.specs.Reading.{bitsIn, bitsRead};
-ghost use Rattle.read_stream.specs.CarrierLaws.{Carrier, Readable};
+ghost use Rattle.read_stream.specs.WordLaws.{EachWord};
+ghost use Rattle.read_stream.specs.CarrierLaws.{Carrier};
 ghost use Rattle.read_stream.specs.OutputLaws.{Found, Room};
 use numbers::Index;
 use replies::Profile;
@@ -44,7 +45,7 @@ pub fn put_messages(
     out: &mut [u8],
     at: usize,
 )
-    requires { ⌜ Found p (now table) used s × Readable p (now part) × Room (bitsIn p (length (now part))) at (now out) ⌝ }
+    requires { ⌜ Found p (now table) used s × EachWord p (Carrier p) (now part) × Room (bitsIn p (length (now part))) at (now out) ⌝ }
     ensures { λ _. ⌜ now (out .exit) ≡ withBits at (bitsRead p (now (part .entry))) (now (out .entry)) ⌝ }
 {
     if part.len() == 0 {

@@ -1,32 +1,33 @@
-// A stream read back to message bits. The words are tested in one pass and read in another, so that a
-// refusal writes nothing.
+// A stream read back to message bits. All tests go before the first word is read, so that a refusal
+// writes nothing.
 ghost use mathlib.Core.Path.{_≡_};
 ghost use lib.ListN.{length};
 ghost use Rattle.profiles.specs.Profiles.{lengthOf};
 ghost use Rattle.messages.specs.Carrying.{CarriesMessages};
 ghost use Rattle.streams.specs.FitLaws.{Fits};
 ghost use Rattle.read_stream.specs.Reading.{readingStream};
-ghost use Rattle.read_stream.specs.TestLaws.{readRefusalFrom};
-ghost use Rattle.read_stream.specs.ReadingLaws.{streamReadRefusal};
+ghost use Rattle.read_stream.specs.ReadingLaws.{wordsReadRefusal, streamReadRefusal};
 use replies::Profile;
 use replies::Reply;
 use replies::Written;
 
 mod carried;
 mod silent;
-mod tests;
 
-// Numbers 10 to 16. The word of the index 2^s, with which every word is compared, is spelt once. A
-// stream in order is clean: it has nothing of 10, 11, 13.
+// Numbers 10, 11, 13 of the stream, then 14, 15, 16 of its words. The word of the index 2^s, with which
+// every word is compared, is spelt once.
 fn refused_words(p: Profile, table: &[u64], s: usize, cells: &[u8]) -> Reply
     requires { ⌜ CarriesMessages p (now table) × (s ≡ lengthOf p) × Fits p (length (now cells)) ⌝ }
-    ensures { λ r. ⌜ r ≡ readRefusalFrom p 0 (now (cells .entry)) ⌝ }
+    ensures { λ r. ⌜ r ≡ wordsReadRefusal p (now (cells .entry)) ⌝ }
 {
+    let stream = streams::refused_stream(p, cells);
+    if stream.number != replies::DONE {
+        return stream;
+    }
     let mut limit = [0u8; 128];
     silent::spell_limit(p, table, s, &mut limit);
-    let clean = streams::in_order(p, cells);
     let m = p.m;
-    tests::refused_parts(p, &limit[..m], clean, cells, 0)
+    silent::refused_parts(p, &limit[..m], cells, 0)
 }
 
 // Number 7, number 9 for an output of `lent` bytes, and numbers 10 to 16.

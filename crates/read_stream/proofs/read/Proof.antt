@@ -47,7 +47,7 @@ put-messages-requires c κs =
     let passed = c .before .before .before in
     let lengths = passed .before .before .before in (
       record { ready = ready (lengths .before); limbs = c .before .limbs-used .ensures; bits = lengths .message-length .ensures },
-      stream passed .readable,
+      stream passed .words,
       stream passed .room,
     )
 

@@ -11,7 +11,7 @@ use borrow.Fn.PlainCycle.{Measures, is, falls, and}
 use Rattle.profiles.specs.Profiles.{stride}
 use Rattle.streams.specs.FitLaws.{rest-of}
 use Rattle.streams.specs.PartLaws.{handed-on}
-use Rattle.read_stream.specs.CarrierLaws.{first-carries, last-carries, rest-readable}
+use Rattle.read_stream.specs.WordLaws.{first-word, only-word, words-behind}
 use Rattle.read_stream.specs.OutputLaws.{Room, room-first, room-rest, put-none, put-last, put-more}
 use Rattle.read_stream.proofs.carried.put_messages.Reads as put-messages
 use Rattle.read_stream.proofs.carried.put_messages.Kinds as put-messages-kinds
@@ -69,7 +69,7 @@ put-messages-put-message-requires : (t : ℕ) → put-messages-lts.Need-put-mess
 put-messages-put-message-requires t c κs =
     let tested = c .before .before in
     let pre = tested .before .before .before .before .pre .1 in
-    (pre .0, last-carries _ (pre .0 .ready .inRange) (pre .1) (some t tested) (c .before .if2 .taken), room t tested)
+    (pre .0, only-word _ (pre .1) (some t tested) (c .before .if2 .taken), room t tested)
 
 put-messages-same-length : (t : ℕ) → put-messages-lts.Need-same-length (called t) (put-messages-at t) put-messages.Post
 put-messages-same-length t c = c .before .before .put-message .kept .1 .1 .1 .1 .1 .0
@@ -89,7 +89,7 @@ put-messages-put-message-requires-2 : (t : ℕ) → put-messages-lts.Need-put-me
 put-messages-put-message-requires-2 t c κs =
     let tested = c .before .before .before in
     let pre = tested .before .before .before .before .pre .1 in
-    (pre .0, first-carries _ (pre .0 .ready .inRange) (pre .1) (some t tested), room t tested)
+    (pre .0, first-word _ (pre .1) (some t tested) .1, room t tested)
 
 put-messages-add-next : (t : ℕ) → put-messages-lts.Need-add-next (called t) (put-messages-at t) put-messages.Post
 put-messages-add-next t c = search needs
@@ -113,8 +113,8 @@ put-messages-put-messages-requires t c κs =
     let more = put .before .before .before in
     let pre = more .before .before .before .before .before .pre .1 in
     let kept = put .put-message2 .kept .1 .1 .1 .1 .1 .0 in
-    let readable = rest-readable _ (pre .0 .ready .inRange) (pre .1) (more .if2 .left) in
-    rw handed-on (rw length-drop (omega (arith, within t more)), (pre .0, readable, room-rest (pre .0) _ (pre .1) _ _ (more .if2 .left) kept (pre .2)))
+    let behind = words-behind _ (pre .1) (pre .0 .ready .inRange) (more .if2 .left) in
+    rw handed-on (rw length-drop (omega (arith, within t more)), (pre .0, behind, room-rest (pre .0) _ (pre .1) _ _ (more .if2 .left) kept (pre .2)))
 
 put-messages-same-length-2 : (t : ℕ) → put-messages-lts.Need-same-length-2 (called t) (put-messages-at t) put-messages.Post
 put-messages-same-length-2 t c =
