@@ -8,7 +8,6 @@ use lib.Dec.{ltb, eqb}
 use lib.ListN.{length, take, drop, getD, replicate, take-append-drop, length-take, length-drop, length-replicate}
 use lib.Seq.{take-all, length-take-le, take-at, drop-at, drop-drop, take-add, ext-getD}
 use borrow.Author.Tests.{lt-ltb, eqb-true, eq-eqb, not-false}
-use Rattle.replies.specs.declared.Reply.{Reply}
 use Rattle.replies.specs.declared.Profile.{Profile}
 use Rattle.replies.specs.Replies.{done, orElse}
 use Rattle.replies.specs.ReplyLaws.{both-done, none-refused, holds-nowhere}
@@ -98,11 +97,6 @@ word-legal p w h =
     let first = and-eq-true-iff (hasLength (p .m) w) (allBelow (p .q) w && isLegal p w) .0 h in
     let second = and-eq-true-iff (allBelow (p .q) w) (isLegal p w) .0 (first .1) in
     record { cells = eqb-true (length w) (p .m) (first .0); levelled = second .0; passes = second .1 }
-
--- A word that 10 and 11 let through is one.
-pub part-word : (p : Profile) (part : List ℕ) {r : Reply} → p .m ≤ length part → r ≡ partRefusal p part → r .number ≡ 0
-    → LegalFor p (take (p .m) part)
-part-word p part inside e none = word-legal p (take (p .m) part) (right-word p part inside (part-right p part (rw e at none)))
 
 bridge-below : (p : Profile) (before after : ℕ) → InRange p → allBelow (p .q) (bridge (patternsOf p) before after) ≡ true
 unfolding bridge
@@ -207,24 +201,18 @@ module _ (p : Profile) (range : InRange p) where
   pub words-found : (words : List (List ℕ)) (cells : List ℕ) → Stream p words cells → wordsOf p cells ≡ words
   words-found words cells s = rw (stream-count words cells s, ← (s .bridged)) (stream-taken p range words (s .legal) .found)
 
-  -- Of a stream 10, 11, 13 refuse nothing from any word on, ..
-  pub parts-accepted : (words : List (List ℕ)) (cells : List ℕ) → Stream p words cells
-      → FromEach p (λ part. partRefusal p part .number ≡ 0) (wordsIn p (length cells)) cells
-  parts-accepted words cells s =
-      let parts : FromEach p (RightPart p) (length words) cells = rw (← (s .bridged)) (stream-taken p range words (s .legal) .parts) in
-      rw (stream-count words cells s) (each-implies p (right-done p) (length words) cells parts)
-
+  -- Of a stream 10, 11, 13 refuse nothing, ..
   pub stream-accepted : (words : List (List ℕ)) (cells : List ℕ) → Stream p words cells → streamRefusal p cells ≡ done
   unfolding streamRefusal
-  stream-accepted words cells s = throughout-done p (partRefusal p) (wordsIn p (length cells)) 0 cells (parts-accepted words cells s)
+  stream-accepted words cells s =
+      let n = length words in
+      let parts : FromEach p (RightPart p) n cells = rw (← (s .bridged)) (stream-taken p range words (s .legal) .parts) in
+      rw (stream-count words cells s) (throughout-done p (partRefusal p) n 0 cells (each-implies p (right-done p) n cells parts))
 
   -- .. and cells of the length of a stream of which they refuse nothing are a stream: its words, with the right bridges.
-  pub accepted-parts : (cells : List ℕ) → length cells ≡ streamLength p (wordsIn p (length cells))
-      → FromEach p (λ part. partRefusal p part .number ≡ 0) (wordsIn p (length cells)) cells → Stream p (wordsOf p cells) cells
-  accepted-parts cells exact each =
-      let n = wordsIn p (length cells) in parts-make-stream p range n cells exact (each-implies p (part-right p) n cells each)
-
   pub accepted-stream : (cells : List ℕ) → length cells ≡ streamLength p (wordsIn p (length cells)) → streamRefusal p cells .number ≡ 0
       → Stream p (wordsOf p cells) cells
   unfolding streamRefusal
-  accepted-stream cells exact e = accepted-parts cells exact (each-done p (partRefusal p) (wordsIn p (length cells)) 0 cells e)
+  accepted-stream cells exact e =
+      let n = wordsIn p (length cells) in
+      parts-make-stream p range n cells exact (each-implies p (part-right p) n cells (each-done p (partRefusal p) n 0 cells e))

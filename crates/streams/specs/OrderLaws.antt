@@ -21,7 +21,7 @@ use Rattle.streams.specs.Streams.{wordsIn, bridgeRefusal, partRefusal, s
 use Rattle.streams.specs.FitLaws.{no-word, last-word, rest-of}
 use Rattle.streams.specs.BridgeLaws.{RightCells, right-from, none-wrong, no-bridge}
 use Rattle.streams.specs.PartLaws.{rest-exact}
-use Rattle.streams.specs.EachLaws.{FromEach, each-of-both, throughout-done, each-done}
+use Rattle.streams.specs.EachLaws.{FromEach, each-of-both, throughout-done}
 
 -- The first n cells of a run that 10 and 11 do not refuse are not refused, and the others are not.
 record Split (q x n : ℕ) (cells : List ℕ) : Type 0 where
@@ -126,24 +126,3 @@ in-order p cells e none right =
     let n = wordsIn p (length cells) in
     let run = accepted-each p n cells (cells-accepted (p .q) (p .x) cells (rw e at none)) in
     throughout-done p (partRefusal p) n 0 cells (each-of-both p (part-in-order p) n cells run right)
-
--- A part of which 10, 11 and 13 refuse nothing: ..
-module _ (p : Profile) (part : List ℕ) (exact : length part ≡ streamLength p (wordsIn p (length part))) (clean : streamRefusal p part ≡ done) where
-  parts-clean : FromEach p (λ t. partRefusal p t .number ≡ 0) (wordsIn p (length part)) part
-  unfolding streamRefusal
-  parts-clean = each-done p (partRefusal p) (wordsIn p (length part)) 0 part (rw clean)
-
-  -- .. nothing of its first word and bridge, ..
-  pub first-clean : 0 < length part → partRefusal p part .number ≡ 0
-  first-clean some = go (wordsIn p (length part)) exact parts-clean
-    where
-      go : (n : ℕ) → length part ≡ streamLength p n → FromEach p (λ t. partRefusal p t .number ≡ 0) n part → partRefusal p part .number ≡ 0
-      go zero e each = absurd (omega arith)
-      go (suc n) e each = each .0
-
-  -- .. and nothing of what is behind them.
-  pub rest-clean : InRange p → p .m < length part → streamRefusal p (drop (stride p) part) ≡ done
-  unfolding streamRefusal
-  rest-clean range more =
-      let rest = rw (rest-of p (length part) range exact more .words) at parts-clean in
-      throughout-done p (partRefusal p) _ 0 (drop (stride p) part) (rw length-drop (rest .1))

@@ -68,7 +68,7 @@ unfolding refusedAtFirst
 first-place test n number = rw zero-add at (from-place 0 test n number)
 
 -- .. two tests lie no further in than the further of them, ..
-pub else-place : (a b : Reply) {most : ℕ} → a .place ≤ most → b .place ≤ most → orElse a b .place ≤ most
+else-place : (a b : Reply) {most : ℕ} → a .place ≤ most → b .place ≤ most → orElse a b .place ≤ most
 unfolding orElse
 else-place a b {most} l k = go (isDone a)
   where
@@ -103,7 +103,7 @@ part-place p part =
     (moved-place (p .m) _ (le-trans (first-place _ _ 13) (omega (arith, length-take (p .x) (drop (p .m) part))))))
 
 -- A refusal throughout n words lies among their cells, where each word's does.
-pub throughout-place : (p : Profile) (test : List ℕ → Reply) → ((part : List ℕ) → test part .place ≤ stride p) → (n place : ℕ) (part : List ℕ)
+throughout-place : (p : Profile) (test : List ℕ → Reply) → ((part : List ℕ) → test part .place ≤ stride p) → (n place : ℕ) (part : List ℕ)
     → throughout p test n place part .place ≤ place + n * stride p
 unfolding throughout
 throughout-place p test within zero place part = omega arith

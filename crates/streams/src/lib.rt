@@ -105,7 +105,7 @@ fn refused_bridge(p: Profile, part: &[u8]) -> Reply
 }
 
 // Numbers 10, 11, 13 from a word on.
-pub fn refused_part(p: Profile, part: &[u8]) -> Reply
+fn refused_part(p: Profile, part: &[u8]) -> Reply
     requires { ⌜ InRange p × (length (now part) ≡ streamLength p (wordsIn p (length (now part)))) ⌝ }
     ensures { λ r. ⌜ r ≡ partRefusal p (now (part .entry)) ⌝ }
 {
@@ -161,7 +161,7 @@ fn bridges_right(p: Profile, cells: &[u8]) -> bool
 
 // A stream is in order: seen as one run, its cells are refused neither 10 nor 11, and each bridge is
 // right. Then 10, 11 and 13 refuse nothing of it.
-pub fn in_order(p: Profile, cells: &[u8]) -> bool
+fn in_order(p: Profile, cells: &[u8]) -> bool
     requires { ⌜ InRange p × Fits p (length (now cells)) ⌝ }
     ensures { λ r. ⌜ (r ≡ true → streamRefusal p (now (cells .entry)) ≡ done) ⌝ }
 {
