@@ -55,7 +55,7 @@ module _ (p : Profile) (table : List ℕ) (ready : carryingRefusal p table .numb
   -- The word of a message's index carries the message.
   pub carrier-carries : (message : ℕ) → message < 2 ^ lengthOf p → Carrier p (carrier p message) message
   carrier-carries message below =
-      let one = one-word-of-index (p .q) (p .x) (p .m) (indexOf message) (index-below carrying below) in
+      let one = one-word-of-index _ _ _ (indexOf message) (index-below carrying below) in
       record { legal = one .found; its-index = one .its-index; below = below }
 
   -- 14, 15 and 16 refuse no word that carries a message, ..
@@ -84,7 +84,7 @@ module _ (p : Profile) (table : List ℕ) (ready : carryingRefusal p table .numb
       record { legal = legal; its-index = omega arith; below = omega arith }
     where
       all-0 : indexFor p w ≡ 0 → every (λ c. eqb c 0) w ≡ true
-      all-0 none = rw (zeros-only (p .q) (p .x) (p .m) w (in-range .levels .least) legal none) (every-replicate _ (p .m) 0 refl)
+      all-0 none = rw (zeros-only _ _ _ w (in-range .levels .least) legal none) (every-replicate _ (p .m) 0 refl)
 
   -- The words that carry messages pass what each word that carries a message passes: ..
   carriers-pass : (test : List ℕ → Bool) → ((w : List ℕ) (message : ℕ) → Carrier p w message → test w ≡ true) → (messages : List ℕ)
@@ -119,7 +119,7 @@ module _ (p : Profile) (table : List ℕ) (ready : carryingRefusal p table .numb
   words-back [] h k = refl
   words-back (w ∷ words) h k =
       let (c, hs, ks) = word-carries w words h k in
-      rw (← (c .its-index), word-of-index-of-word (p .q) (p .x) (p .m) w (c .legal), words-back words hs ks)
+      rw (← (c .its-index), word-of-index-of-word _ _ _ w (c .legal), words-back words hs ks)
 
   -- .. which are of s bits.
   pub messages-carried : (words : List (List ℕ)) → every (isWord p) words ≡ true → every (carriesMessage p) words ≡ true

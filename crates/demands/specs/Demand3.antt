@@ -18,8 +18,8 @@ use Rattle.listing.specs.Every.{every}
 use Rattle.listing.specs.EveryLaws.{every-append}
 use Rattle.listing.specs.Same.{same}
 use Rattle.patterns.specs.Stream.{streamOf}
-use Rattle.streams.specs.Streams.{Stream}
-use Rattle.streams.specs.JoinedLaws.{turnedWords, length-turned-words, turned-words-append, joined-stream, turned-stream}
+use Rattle.streams.specs.Streams.{Stream, turnedWords}
+use Rattle.streams.specs.JoinedLaws.{length-turned-words, turned-words-append, joined-stream, turned-stream}
 use Rattle.join_streams.specs.Joining.{joiningStreams, turningStream}
 use Rattle.read_stream.specs.Reading.{bitsRead, readingStream}
 use Rattle.demands.specs.Outcomes.{doneWith, cellsWritten, carriesMessage, Room, WroteStream, BitRoom, ReadBits, SameStream, AddsNothing}

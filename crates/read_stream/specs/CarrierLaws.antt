@@ -37,7 +37,7 @@ not-silent-carries : {p : Profile} → InRange p → (w : List ℕ) → LegalFor
 unfolding silentRefusal
 not-silent-carries {p} range w word none =
     let other = test-failed _ 13 (both-done _ _ none .first) in
-    record { word = word; first = not-zeros (p .q) (p .x) (p .m) w (range .levels .least) word other }
+    record { word = word; first = not-zeros _ _ _ w (range .levels .least) word other }
 
 module _ {p : Profile} (cells : List ℕ) (range : InRange p) (fits : Fits p (length cells)) where
   -- The words of a stream that 10, 11, 13 do not refuse are legal, ..

@@ -31,7 +31,7 @@ pub record Limits (p : Profile) (limit : List ℕ) : Type 0 where
 
 -- Where words carry messages there is one.
 limit-exists : {p : Profile} {table : List ℕ} → CarriesMessages p table → 2 ^ lengthOf p < wordCount p
-limit-exists {p} h = lt-of-lt-of-le (carrying-before-tops (p .q) (p .x) (p .m) (words-carry p (h .carries))) (sub-le _ 1)
+limit-exists {p} h = lt-of-lt-of-le (carrying-before-tops _ _ _ (words-carry p (h .carries))) (sub-le _ 1)
 
 -- A profile that has words that carry messages, a table that belongs to it, and its message length.
 module _ {p : Profile} {table : List ℕ} {s : ℕ} (ready : CarriesMessages p table) (same : s ≡ lengthOf p) where
@@ -74,12 +74,12 @@ index-above q x m i w l r = go (before (word q x m i) w) refl (ltb i (index q x 
 pub limit-tells : {p : Profile} {limit : List ℕ} (w : List ℕ) → Limits p limit → LegalFor p w
     → before limit w ≡ ltb (2 ^ lengthOf p) (indexFor p w)
 unfolding limitOf
-limit-tells {p} w limits r = rw (limits .cells) (index-above (p .q) (p .x) (p .m) _ w (limits .exists) r)
+limit-tells {p} w limits r = rw (limits .cells) (index-above _ _ _ _ w (limits .exists) r)
 
 -- It is as long as every word, so it is what stands in its first m cells.
 limit-cells : (p : Profile) → 2 ^ lengthOf p < wordCount p → length (limitOf p) ≡ p .m
 unfolding limitOf
-limit-cells p exists = one-word-of-index (p .q) (p .x) (p .m) _ exists .found .cells
+limit-cells p exists = one-word-of-index _ _ _ _ exists .found .cells
 
 pub limit-length : {p : Profile} {limit : List ℕ} → Limits p limit → length limit ≡ p .m
 limit-length {p} limits = rw (limits .cells) (limit-cells p (limits .exists))

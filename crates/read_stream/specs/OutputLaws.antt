@@ -55,7 +55,7 @@ module _ {p : Profile} {table : List ℕ} {used s : ℕ} (found : Found p table 
     word-indexable = rw (found .limbs) (indexable p table word all not-refused)
 
     index-small : indexFor p word < base ^ 10
-    index-small = lt-trans (index-below-N (p .q) (p .x) (p .m) word (carrier .word)) (words-fit (found .ready .inRange))
+    index-small = lt-trans (index-below-N _ _ _ word (carrier .word)) (words-fit (found .ready .inRange))
 
     pub index-held : {sum : List ℕ} → sum ≡ withIndex p used word noLimbs → value sum ≡ indexFor p word
     index-held e = rw (e, found .limbs, index-whole p table word all not-refused) (value-limbsOf-below 10 index-small)

@@ -12,7 +12,7 @@ use Rattle.profiles.specs.Profiles.{stride, streamLength}
 use Rattle.streams.specs.Streams.{wordsIn}
 use Rattle.streams.specs.FitLaws.{rest-of}
 use Rattle.streams.specs.PartLaws.{rest-exact}
-use Rattle.streams.specs.EachLaws.{FromEach}
+use Rattle.streams.specs.FromWords.{FromEach}
 
 -- A part of a stream, and a fact of each of its words.
 pub record EachWord (p : Profile) (fact : List ℕ → Type 0) (part : List ℕ) : Type 0 where

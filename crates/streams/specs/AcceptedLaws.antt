@@ -24,7 +24,8 @@ use Rattle.profiles.specs.Profiles.{patternsOf, isWord, stride, streamLength, i
 use Rattle.cells.specs.CellLaws.{cells-below, below-not-refused, cells-legal, legal-not-refused}
 use Rattle.streams.specs.Streams.{Stream, wordsIn, firstWords, wordsOf, bridgeIn, rightBridge, bridgeRefusal, partRefusal, streamRefusal}
 use Rattle.streams.specs.FitLaws.{length-step, words-of-length}
-use Rattle.streams.specs.EachLaws.{FromEach, each-implies, each-done, throughout-done}
+use Rattle.streams.specs.EachLaws.{each-implies, each-done, throughout-done}
+use Rattle.streams.specs.FromWords.{FromEach}
 
 -- What 10, 11, 13 ask of the part from a word on.
 record RightPart (p : Profile) (part : List ℕ) : Type 0 where
@@ -40,7 +41,7 @@ part-right p part e =
     let nowhere = holds-nowhere _ _ 12 (moved-done (p .m) _ (second .second)) in
     record {
       levelled = cells-below (p .q) (take (stride p) part) (first .first);
-      passes = cells-legal (p .q) (p .x) (take (p .m) part) (second .first);
+      passes = cells-legal _ _ (take (p .m) part) (second .first);
       bridged = λ i l. eqb-true _ _ (not-false _ (nowhere i (omega arith) l));
     }
 
@@ -51,7 +52,7 @@ right-done p part r =
     let none = none-refused wrong (length (bridgeIn p part)) 13 (λ i l h. rw (eq-eqb _ _ (r .bridged i h))) in
     rw (
       below-not-refused (p .q) (take (stride p) part) (r .levelled),
-      legal-not-refused (p .q) (p .x) (take (p .m) part) (r .passes),
+      legal-not-refused _ _ (take (p .m) part) (r .passes),
       moved-of-done (p .m) _ none,
     )
 

@@ -12,11 +12,7 @@ use Rattle.replies.specs.LowestLaws.{lowest-of-done, lowest-done, moved-done}
 use Rattle.listing.specs.Every.{every}
 use Rattle.profiles.specs.Profiles.{stride}
 use Rattle.streams.specs.Streams.{firstWords, throughout}
-
--- A fact of the part from each of n words on.
-abbrev pub FromEach : Profile → (List ℕ → Type 0) → ℕ → List ℕ → Type 0
-FromEach p fact zero part = Unit
-FromEach p fact (suc n) part = fact part × FromEach p fact n (drop (stride p) part)
+use Rattle.streams.specs.FromWords.{FromEach}
 
 -- What follows from a fact follows of each part, ..
 pub each-implies : (p : Profile) {first second : List ℕ → Type 0} → ((part : List ℕ) → first part → second part) → (n : ℕ) (part : List ℕ)

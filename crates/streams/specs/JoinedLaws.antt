@@ -15,14 +15,11 @@ use Rattle.patterns.specs.StreamLaws.{stream-joined, stream-turned}
 use Rattle.code.specs.Code.{legal}
 use Rattle.code.specs.Laws.{turned-legal, stream-legal}
 use Rattle.profiles.specs.Profiles.{patternsOf, isWord, isLegal, LegalFor}
-use Rattle.streams.specs.Streams.{Stream}
+use Rattle.streams.specs.Streams.{Stream, turnedWords}
 use Rattle.streams.specs.FitLaws.{Fits, BothFit, length-fits}
 use Rattle.streams.specs.AcceptedLaws.{word-legal, stream-exact, stream-count}
 
--- The words of a turned stream: turned, the last first.
-abbrev pub turnedWords : List (List ℕ) → List (List ℕ)
-turnedWords words = reverse (map reverse words)
-
+-- Turned words are as many, and those of two lists stand in the other order.
 pub length-turned-words : (words : List (List ℕ)) → length (turnedWords words) ≡ length words
 length-turned-words words = rw (length-reverse (map reverse words), length-map words reverse)
 
@@ -42,7 +39,7 @@ every-turned : (p : Profile) (words : List (List ℕ)) → every (isWord p) word
 every-turned p [] h = refl
 every-turned p (w ∷ words) h =
     let both = and-eq-true-iff (isWord p w) (every (isWord p) words) .0 h in
-    rw (legal-word p (reverse w) (turned-legal (p .q) (p .x) (p .m) w (word-legal p w (both .0)))) (every-turned p words (both .1))
+    rw (legal-word p (reverse w) (turned-legal _ _ _ w (word-legal p w (both .0)))) (every-turned p words (both .1))
 
 module _ (p : Profile) (range : InRange p) where
   words-filled : (words : List (List ℕ)) → every (isWord p) words ≡ true → every filled words ≡ true
@@ -53,7 +50,7 @@ module _ (p : Profile) (range : InRange p) where
   pub stream-free : {words : List (List ℕ)} {cells : List ℕ} → Stream p words cells → isLegal p cells ≡ true
   stream-free {words} s =
       let passes = every-implies (isWord p) (isLegal p) (λ w h. word-legal p w h .passes) words (s .legal) in
-      rw (← (s .bridged)) (stream-legal (p .q) (p .x) words (range .levels .least) (words-filled words (s .legal)) passes)
+      rw (← (s .bridged)) (stream-legal _ _ words (range .levels .least) (words-filled words (s .legal)) passes)
 
   -- Two streams joined are the stream of the words of the first, then those of the second.
   pub joined-stream : {u v : List (List ℕ)} {a b : List ℕ} → Stream p u a → Stream p v b → Stream p (u ++ v) (joined (patternsOf p) a b)

@@ -1,5 +1,6 @@
--- Streams holds the definitions, Examples the worked examples; the other files hold the laws.
+-- Streams and FromWords hold the definitions, Examples the worked examples; the other files hold the laws.
 pub mod Streams
+pub mod FromWords
 pub mod Examples
 pub mod FitLaws
 pub mod UnfitLaws

@@ -14,20 +14,8 @@ use Rattle.replies.specs.declared.Profile.{Profile}
 use Rattle.replies.specs.Replies.{done, isDone, refused, movedBy, lowest}
 use Rattle.profiles.specs.Profiles.{stride}
 use Rattle.streams.specs.Streams.{throughout}
-use Rattle.streams.specs.EachLaws.{FromEach, each-done}
-
--- The part of a stream from word k on.
-abbrev pub partFrom : Profile → ℕ → List ℕ → List ℕ
-partFrom p k cells = drop (k * stride p) cells
-
--- A reply is the lowest number that a test gives from any of n words on, with the first place: it is the test's reply from one of the words, no
--- other word gives a lower number, and no earlier word the same.
-pub record LowestFirst (p : Profile) (test : List ℕ → Reply) (n place : ℕ) (cells : List ℕ) (r : Reply) : Type 0 where
-  pub word : ℕ
-  pub within : word < n
-  pub given : r ≡ refused (test (partFrom p word cells) .number) (test (partFrom p word cells) .place + (place + word * stride p))
-  pub least : (k : ℕ) → k < n → (test (partFrom p k cells) .number ≡ 0 → ⊥) → r .number ≤ test (partFrom p k cells) .number
-  pub earliest : (k : ℕ) → k < word → test (partFrom p k cells) .number ≡ r .number → ⊥
+use Rattle.streams.specs.EachLaws.{each-done}
+use Rattle.streams.specs.FromWords.{FromEach, partFrom, LowestFirst}
 
 part-further : (p : Profile) (k : ℕ) (cells : List ℕ) → partFrom p k (drop (stride p) cells) ≡ partFrom p (suc k) cells
 part-further p k cells = rw (suc-mul, add-comm (k * stride p) (stride p)) (drop-drop (k * stride p) (stride p) cells)

@@ -21,7 +21,8 @@ use Rattle.streams.specs.Streams.{wordsIn, bridgeRefusal, partRefusal, s
 use Rattle.streams.specs.FitLaws.{no-word, last-word, rest-of}
 use Rattle.streams.specs.BridgeLaws.{RightCells, right-from, none-wrong, no-bridge}
 use Rattle.streams.specs.PartLaws.{rest-exact}
-use Rattle.streams.specs.EachLaws.{FromEach, each-of-both, throughout-done}
+use Rattle.streams.specs.EachLaws.{each-of-both, throughout-done}
+use Rattle.streams.specs.FromWords.{FromEach}
 
 -- The first n cells of a run that 10 and 11 do not refuse are not refused, and the others are not.
 record Split (q x n : ℕ) (cells : List ℕ) : Type 0 where
@@ -114,7 +115,7 @@ unfolding partRefusal orElse
 part-in-order p part a right =
     rw (
       below-not-refused (p .q) (take (stride p) part) (split (p .q) (p .x) (stride p) part a .front .levelled),
-      legal-not-refused (p .q) (p .x) (take (p .m) part) (split (p .q) (p .x) (p .m) part a .front .passes),
+      legal-not-refused _ _ (take (p .m) part) (split (p .q) (p .x) (p .m) part a .front .passes),
       right,
     )
 

@@ -1,6 +1,6 @@
 -- Streams of a profile: how long they are, where their words and bridges stand, and numbers 7, 10, 11 and 13.
 use mathlib.Core.Bool.{Bool, true, not, _&&_, _||_}
-use mathlib.Core.List.{List, [], _∷_}
+use mathlib.Core.List.{List, [], _∷_, map, reverse}
 use mathlib.Core.Path.{_≡_}
 use Prim.Native.Nat.{ℕ, zero, suc, _+_, _-_, _*_, _/_}
 use lib.Dec.{ltb, eqb}
@@ -19,6 +19,10 @@ use Rattle.cells.specs.Finding.{cellRefusal, patternRefusal}
 pub record Stream (p : Profile) (words : List (List ℕ)) (cells : List ℕ) : Type 0 where
   pub legal : every (isWord p) words ≡ true
   pub bridged : streamOf (patternsOf p) words ≡ cells
+
+-- The words of a turned stream: turned, the last first.
+abbrev pub turnedWords : List (List ℕ) → List (List ℕ)
+turnedWords words = reverse (map reverse words)
 
 -- How many words a stream of so many cells has: a bridge behind the last word would make it m + x cells a word.
 unfoldable pub wordsIn : Profile → ℕ → ℕ
