@@ -1,8 +1,8 @@
 -- Streams of a profile: how long they are, where their words and bridges stand, and numbers 7, 10, 11 and 13.
-use mathlib.Core.Bool.{Bool, true, not, _&&_, _||_}
+use mathlib.Core.Bool.{Bool, true, not, _||_}
 use mathlib.Core.List.{List, [], _∷_, map, reverse}
 use mathlib.Core.Path.{_≡_}
-use Prim.Native.Nat.{ℕ, zero, suc, _+_, _-_, _*_, _/_}
+use Prim.Native.Nat.{ℕ, zero, suc, _+_, _/_}
 use lib.Dec.{ltb, eqb}
 use lib.ListN.{length, take, drop, getD}
 use Rattle.replies.specs.declared.Reply.{Reply}
@@ -11,7 +11,6 @@ use Rattle.replies.specs.Replies.{done, refusedIf, refusedAtFirst, orElse, move
 use Rattle.replies.specs.Ranges.{mostWords}
 use Rattle.listing.specs.Every.{every}
 use Rattle.patterns.specs.Stream.{bridge, firstCell, lastCell, streamOf}
-use Rattle.code.specs.Code.{legal}
 use Rattle.profiles.specs.Profiles.{patternsOf, isWord, stride, streamLength}
 use Rattle.cells.specs.Finding.{cellRefusal, patternRefusal}
 
