@@ -1,6 +1,6 @@
 /* The cells of flash cartridges, for C and C++: tables of counts, words and their indices, streams written,
  * read, joined and turned, a pattern finder, the published profiles and their rates, the listing of a small
- * code. Link libremizutogya.a; it is for x86-64 Linux and needs the C library alone.
+ * code, replies in words. Link libremizutogya.a; it is for x86-64 Linux and needs the C library alone.
  *
  * THE CODE. A cell is a byte that holds a level, 0 to q - 1; top is level q - 1. A forbidden pattern is a top,
  * then 1 to x cells below top, then a top; two tops side by side are allowed. A legal word has m cells, each
@@ -62,6 +62,9 @@ extern "C" {
 
 /* The bytes that remi_list_code must be lent; no listing is longer. */
 #define REMI_LISTING_BYTES 262144
+
+/* The bytes that remi_reply_text must be lent; no text is longer. */
+#define REMI_REPLY_BYTES 256
 
 /* The numbers of a reply. The place is 0 where none is named. */
 enum remi_number {
@@ -200,6 +203,14 @@ remi_rated remi_rate_of_words(remi_profile p, const uint64_t *table, size_t tabl
  * after them.
  * Numbers: 9. */
 remi_written remi_list_code(const uint8_t *line, size_t n_line, uint8_t *out, size_t out_bytes);
+
+/* Writes what a reply says in words, as the program remi prints it: `done`; or, as in `refused 11 at 345: forbidden
+ * pattern (top at 345)`, the number, the place, what the number means, and what stands at the place where the
+ * number has one. Any reply may be handed in; `number that has no meaning` is said of a number above 16.
+ * Out: REMI_REPLY_BYTES bytes or more, whatever the reply; count: bytes of text written, with no zero byte
+ * after them.
+ * Numbers: 9. */
+remi_written remi_reply_text(remi_reply reply, uint8_t *out, size_t out_bytes);
 
 #ifdef __cplusplus
 }

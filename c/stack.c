@@ -42,6 +42,7 @@ static void find_pattern(void) { remi_find_pattern(p.q, p.x, run, REMI_MOST_FOUN
 static void published_profile(void) { remi_published_profile(REMI_PUBLISHED_ROWS - 1); }
 static void rate_of_words(void) { remi_rate_of_words(p, table, TABLE_ROOM, REMI_MOST_WORDS); }
 static void list_code(void) { remi_list_code((const uint8_t *)"4 6 1\n", 6, text, REMI_LISTING_BYTES); }
+static void reply_text(void) { remi_reply_text((remi_reply){REMI_PATTERN, SIZE_MAX}, text, REMI_REPLY_BYTES); }
 
 static const struct {
     const char *name;
@@ -53,6 +54,7 @@ static const struct {
     {"remi_join_streams", join_streams},   {"remi_turn_stream", turn_stream},
     {"remi_find_pattern", find_pattern},   {"remi_published_profile", published_profile},
     {"remi_rate_of_words", rate_of_words}, {"remi_list_code", list_code},
+    {"remi_reply_text", reply_text},
 };
 #define CALLS (sizeof calls / sizeof *calls)
 

@@ -3,14 +3,15 @@ use mathlib.Core.Path.{_≡_, refl}
 use mathlib.Core.Bool.{true, false}
 use mathlib.Core.List.{[], _∷_}
 use Rattle.replies.specs.declared.Profile.{Profile}
-use Rattle.replies.specs.Replies.{refused, orElse, outsideRefusal, profileRefusal, profileOf}
+use Rattle.replies.specs.Replies.{done, refused, orElse, outsideRefusal, profileRefusal, profileOf}
 use Rattle.text.specs.Text.{bytes, decimal}
-use Rattle.outcomes.specs.Outcomes.{meaning, placeName, placeText, refusalText, cellsAround, nowhere, spotOf}
+use Rattle.outcomes.specs.Outcomes.{placedText, wordsText, replyText, cellsAround, nowhere, spotOf}
 
 pub record Told : Type 0 where
-  pub with-place : refusalText (refused 11 345) ≡ bytes "refused 11 at 345: forbidden pattern (top at 345)"
-  pub without-place : refusalText (refused 9 0) ≡ bytes "refused 9 at 0: lent output too short"
-  pub no-such-number : refusalText (refused 17 5) ≡ bytes "refused 17 at 5: "
+  pub with-place : replyText (refused 11 345) ≡ bytes "refused 11 at 345: forbidden pattern (top at 345)"
+  pub without-place : replyText (refused 9 0) ≡ bytes "refused 9 at 0: lent output too short"
+  pub no-such-number : replyText (refused 17 5) ≡ bytes "refused 17 at 5: number that has no meaning"
+  pub no-refusal : replyText done ≡ bytes "done"
   pub one-cell : cellsAround (3 ∷ []) 0 ≡ bytes " [3]"
   pub all-cells : cellsAround (0 ∷ 31 ∷ 2 ∷ []) 1 ≡ bytes " 0 [31] 2"
   pub eight-before : cellsAround (9 ∷ 8 ∷ 7 ∷ 6 ∷ 5 ∷ 4 ∷ 3 ∷ 2 ∷ 1 ∷ 0 ∷ []) 9 ≡ bytes " 8 7 6 5 4 3 2 1 [0]"
@@ -18,11 +19,12 @@ pub record Told : Type 0 where
   pub past-all : cellsAround (3 ∷ []) 9 ≡ []
 
 pub told : Told
-unfolding decimal meaning placeName placeText refusalText cellsAround
+unfolding decimal placedText wordsText replyText cellsAround
 told = record {
   with-place = refl;
   without-place = refl;
   no-such-number = refl;
+  no-refusal = refl;
   one-cell = refl;
   all-cells = refl;
   eight-before = refl;

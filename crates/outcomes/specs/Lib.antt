@@ -1,8 +1,8 @@
--- Outcomes holds what a person is told of a refusal, Examples the worked examples; the other files hold the laws.
+-- Outcomes holds what a person is told of a reply, Examples the worked examples; the other files hold the laws.
 pub mod Outcomes
 pub mod Examples
 pub mod TextLaws
-pub mod MeaningLaws
-pub mod RefusalLaws
+pub mod WordsLaws
+pub mod ReplyLaws
 pub mod CellsLaws
 pub mod SpotLaws

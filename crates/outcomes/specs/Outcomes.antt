@@ -1,57 +1,73 @@
--- What a person is told of a refusal, in document 01's words.
-use mathlib.Core.Bool.{Bool, true, false, cond, not, _&&_, _||_}
+-- What a person is told of a reply, in document 01's words; the cells around a place, and where it lies.
+use mathlib.Core.Bool.{Bool, true, false, cond, not, _||_}
 use mathlib.Core.List.{List, [], _∷_, _++_}
 use Prim.Native.Nat.{ℕ, suc, _+_, _-_, _/_, _%_, min}
 use lib.Dec.{eqb, ltb, leb}
 use lib.ListN.{length, take, drop, getD}
 use Rattle.replies.specs.declared.Profile.{Profile}
 use Rattle.replies.specs.declared.Reply.{Reply}
-use Rattle.replies.specs.Replies.{isDone, profileRefusal}
+use Rattle.replies.specs.Replies.{isDone, profileRefusal, roomRefusal, Outcome, writing}
 use Rattle.text.specs.Text.{bytes, decimal}
 use Rattle.outcomes.specs.declared.Spot.{Spot}
 
--- What the numbers mean, from 0 on. Number 0 is no refusal.
-abbrev pub meanings : List (List ℕ)
-meanings =
-    []
-    ∷ bytes "q outside its range, 2 to 32"
-    ∷ bytes "m outside its range, 1 to 128"
-    ∷ bytes "x outside its range, 1 to 8"
-    ∷ bytes "no words that carry messages"
-    ∷ bytes "table shorter than 10(m+1) limbs"
-    ∷ bytes "table does not belong"
-    ∷ bytes "input length that fits no word, stream or bit count, or is over the most"
-    ∷ bytes "bit after the last message bit is 1"
-    ∷ bytes "lent output too short"
-    ∷ bytes "cell at or above q"
-    ∷ bytes "forbidden pattern"
-    ∷ bytes "index at or above N(m), or list row at or above 40"
-    ∷ bytes "wrong bridge cell"
-    ∷ bytes "word of all 0"
-    ∷ bytes "index above 2^s"
-    ∷ bytes "word of all top"
+-- Words on a number: what it means; where it has a place, also what stands there, up to the place, which is apart or among the cells handed in.
+pub data Words : Type 0 where
+  plain : List ℕ → Words
+  placed : List ℕ → Words
+  amongCells : List ℕ → Words
+
+-- The words on the numbers, from 0 on.
+abbrev pub words : List Words
+words =
+    plain (bytes "done")
+    ∷ plain (bytes "q outside its range, 2 to 32")
+    ∷ plain (bytes "m outside its range, 1 to 128")
+    ∷ plain (bytes "x outside its range, 1 to 8")
+    ∷ plain (bytes "no words that carry messages")
+    ∷ plain (bytes "table shorter than 10(m+1) limbs")
+    ∷ placed (bytes "table does not belong (first wrong row ")
+    ∷ plain (bytes "input length that fits no word, stream or bit count, or is over the most")
+    ∷ placed (bytes "bit after the last message bit is 1 (bit at ")
+    ∷ plain (bytes "lent output too short")
+    ∷ amongCells (bytes "cell at or above q (cell at ")
+    ∷ amongCells (bytes "forbidden pattern (top at ")
+    ∷ plain (bytes "index at or above N(m), or list row at or above 40")
+    ∷ amongCells (bytes "wrong bridge cell (cell at ")
+    ∷ amongCells (bytes "word of all 0 (word at ")
+    ∷ amongCells (bytes "index above 2^s (word at ")
+    ∷ amongCells (bytes "word of all top (word at ")
     ∷ []
 
-unfoldable pub meaning : ℕ → List ℕ
-meaning number = getD meanings number []
+-- The words on a number that is not in use.
+abbrev pub noWords : Words
+noWords = plain (bytes "number that has no meaning")
 
--- What stands at the place of a number; nothing where the place is always 0.
-unfoldable pub placeName : ℕ → List ℕ
-placeName number =
-    cond (eqb number 6) (bytes "first wrong row ")
-    (cond (eqb number 8) (bytes "bit at ")
-    (cond (eqb number 10 || eqb number 13) (bytes "cell at ")
-    (cond (eqb number 11) (bytes "top at ")
-    (cond (leb 14 number && leb number 16) (bytes "word at ") []))))
+-- Words with the place behind them.
+unfoldable pub placedText : List ℕ → ℕ → List ℕ
+placedText text place = text ++ (decimal place ++ bytes ")")
 
--- The place behind its name, in brackets, where the number has one.
-unfoldable pub placeText : Reply → List ℕ
-placeText r = cond (eqb (length (placeName (r .number))) 0) [] (bytes " (" ++ (placeName (r .number) ++ (decimal (r .place) ++ bytes ")")))
+-- Words on a number as text, for a place.
+abbrev pub spoken : Words → ℕ → List ℕ
+spoken (plain text) place = text
+spoken (placed text) place = placedText text place
+spoken (amongCells text) place = placedText text place
 
--- What is told of a refusal, as `refused 11 at 345: forbidden pattern (top at 345)`.
-unfoldable pub refusalText : Reply → List ℕ
-refusalText r =
-    bytes "refused " ++ (decimal (r .number) ++ (bytes " at " ++ (decimal (r .place) ++ (bytes ": " ++ (meaning (r .number) ++ placeText r)))))
+unfoldable pub wordsText : ℕ → ℕ → List ℕ
+wordsText number place = spoken (getD words number noWords) place
+
+-- What is told of a reply: `done`, or as `refused 11 at 345: forbidden pattern (top at 345)`.
+unfoldable pub replyText : Reply → List ℕ
+replyText r =
+    cond (isDone r) (wordsText (r .number) (r .place))
+    (bytes "refused " ++ (decimal (r .number) ++ (bytes " at " ++ (decimal (r .place) ++ (bytes ": " ++ wordsText (r .number) (r .place))))))
+
+-- No more than so many bytes are told of a reply.
+abbrev pub replyBytes : ℕ
+replyBytes = 256
+
+-- The outcome of telling a reply: 9 for a lent text of fewer bytes than that.
+unfoldable pub tellingReply : Reply → List ℕ → Outcome
+tellingReply r lent = writing (roomRefusal replyBytes (length lent)) (replyText r) lent
 
 -- Of the cells around a place eight before it and eight behind it are shown, as far as there are so many.
 abbrev pub firstShown : ℕ → ℕ

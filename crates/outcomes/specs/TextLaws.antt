@@ -1,16 +1,12 @@
--- Laws of a text put into a lent list: no text, and a text put to the front.
+-- A law of a text put to the front of a lent list.
 use mathlib.Core.Path.{_≡_}
-use mathlib.Core.List.{List, []}
+use mathlib.Core.List.{List}
 use Prim.Native.Nat.{ℕ}
 use native.Mathlib.Omega.{arith}
 use lib.ListN.{take}
 use Rattle.io.specs.Counts.{Counts}
-use Rattle.text.specs.Put.{Fits, Put}
-use Rattle.text.specs.PutLaws.{length-put, put-nothing, put-front, front-length}
-
--- A text without a byte is put by putting nothing.
-pub nothing-put : {lent text : List ℕ} {at : ℕ} → text ≡ [] → Fits lent at text → Put lent at text lent at
-nothing-put {lent} {text} {at} e fits = rw e (put-nothing lent at (omega arith))
+use Rattle.text.specs.Put.{Put}
+use Rattle.text.specs.PutLaws.{length-put, put-front, front-length}
 
 -- As many bytes stand before the place behind a text at the front as it says, and they are the text.
 pub front-counts : {lent text after : List ℕ} {next : ℕ} → Put lent 0 text after next → Counts next after × (take next after ≡ text)

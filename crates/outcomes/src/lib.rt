@@ -1,12 +1,17 @@
-// What a person is told of a refusal: its number, its place and what they mean, in document 01's words;
+// What a person is told of a reply: its number, its place and what they mean, in document 01's words;
 // the cells around the place; and the word or the bridge that it lies in.
 ghost use mathlib.Core.Path.{_≡_};
 ghost use lib.ListN.{take};
 ghost use Rattle.io.specs.Counts.{Counts};
 ghost use Rattle.text.specs.Put.{Fits, Put};
-ghost use Rattle.outcomes.specs.Outcomes.{meaning, placeName, placeText, refusalText, firstShown, behindShown, cellText, cellsAround, spotOf};
+ghost use Rattle.outcomes.specs.Outcomes.{placedText, wordsText, replyText, tellingReply, firstShown, behindShown, cellText, cellsAround, spotOf};
+use replies::DONE;
 use replies::Profile;
 use replies::Reply;
+use replies::Written;
+
+// No more bytes are told of a reply.
+pub const REPLY_BYTES: usize = 256;
 
 // No stream has so many cells.
 const NO_PLACE: usize = 65536;
@@ -24,91 +29,88 @@ pub struct Spot {
     pub last: usize,
 }
 
-// Puts what a number means.
-fn put_meaning(number: u8, out: &mut [u8], at: usize) -> usize
-    requires { ⌜ Fits (now out) at (meaning number) ⌝ }
-    ensures { λ r. ⌜ Put (now (out .entry)) at (meaning number) (now (out .exit)) r ⌝ }
+// Puts words with the place behind them.
+fn put_placed(words: &[u8], place: usize, out: &mut [u8], at: usize) -> usize
+    requires { ⌜ Fits (now out) at (placedText (now words) place) ⌝ }
+    ensures { λ r. ⌜ Put (now (out .entry)) at (placedText (now (words .entry)) place) (now (out .exit)) r ⌝ }
+{
+    let mut next = text::put(out, at, words);
+    next = text::put_decimal(out, next, place as u64);
+    text::put(out, next, b")")
+}
+
+// Puts the words on a number, with what stands at its place where it has one.
+fn put_words(number: u8, place: usize, out: &mut [u8], at: usize) -> usize
+    requires { ⌜ Fits (now out) at (wordsText number place) ⌝ }
+    ensures { λ r. ⌜ Put (now (out .entry)) at (wordsText number place) (now (out .exit)) r ⌝ }
 {
     match number {
+        0 => text::put(out, at, b"done"),
         1 => text::put(out, at, b"q outside its range, 2 to 32"),
         2 => text::put(out, at, b"m outside its range, 1 to 128"),
         3 => text::put(out, at, b"x outside its range, 1 to 8"),
         4 => text::put(out, at, b"no words that carry messages"),
         5 => text::put(out, at, b"table shorter than 10(m+1) limbs"),
-        6 => text::put(out, at, b"table does not belong"),
+        6 => put_placed(b"table does not belong (first wrong row ", place, out, at),
         7 => text::put(
             out,
             at,
             b"input length that fits no word, stream or bit count, or is over the most",
         ),
-        8 => text::put(out, at, b"bit after the last message bit is 1"),
+        8 => put_placed(
+            b"bit after the last message bit is 1 (bit at ",
+            place,
+            out,
+            at,
+        ),
         9 => text::put(out, at, b"lent output too short"),
-        10 => text::put(out, at, b"cell at or above q"),
-        11 => text::put(out, at, b"forbidden pattern"),
+        10 => put_placed(b"cell at or above q (cell at ", place, out, at),
+        11 => put_placed(b"forbidden pattern (top at ", place, out, at),
         12 => text::put(
             out,
             at,
             b"index at or above N(m), or list row at or above 40",
         ),
-        13 => text::put(out, at, b"wrong bridge cell"),
-        14 => text::put(out, at, b"word of all 0"),
-        15 => text::put(out, at, b"index above 2^s"),
-        16 => text::put(out, at, b"word of all top"),
-        _ => at,
+        13 => put_placed(b"wrong bridge cell (cell at ", place, out, at),
+        14 => put_placed(b"word of all 0 (word at ", place, out, at),
+        15 => put_placed(b"index above 2^s (word at ", place, out, at),
+        16 => put_placed(b"word of all top (word at ", place, out, at),
+        _ => text::put(out, at, b"number that has no meaning"),
     }
 }
 
-// Puts what stands at the place of a number, where the number has one.
-fn put_place_name(number: u8, out: &mut [u8], at: usize) -> usize
-    requires { ⌜ Fits (now out) at (placeName number) ⌝ }
-    ensures { λ r. ⌜ Put (now (out .entry)) at (placeName number) (now (out .exit)) r ⌝ }
+// Puts what is told of a reply.
+fn put_reply(reply: Reply, out: &mut [u8]) -> usize
+    requires { ⌜ Fits (now out) 0 (replyText reply) ⌝ }
+    ensures { λ r. ⌜ Put (now (out .entry)) 0 (replyText reply) (now (out .exit)) r ⌝ }
 {
-    match number {
-        6 => text::put(out, at, b"first wrong row "),
-        8 => text::put(out, at, b"bit at "),
-        10 | 13 => text::put(out, at, b"cell at "),
-        11 => text::put(out, at, b"top at "),
-        14 | 15 | 16 => text::put(out, at, b"word at "),
-        _ => at,
+    if reply.number == DONE {
+        return put_words(reply.number, reply.place, out, 0);
     }
-}
-
-// Puts the place behind its name, in brackets; nothing where a number has no place.
-fn put_place(reply: Reply, out: &mut [u8], at: usize) -> usize
-    requires { ⌜ Fits (now out) at (placeText reply) ⌝ }
-    ensures { λ r. ⌜ Put (now (out .entry)) at (placeText reply) (now (out .exit)) r ⌝ }
-{
-    let mut name = [0u8; 16];
-    let named = put_place_name(reply.number, &mut name, 0);
-    if named == 0 {
-        return at;
-    }
-    let mut next = text::put(out, at, b" (");
-    next = text::put(out, next, &name[..named]);
-    next = text::put_decimal(out, next, reply.place as u64);
-    text::put(out, next, b")")
-}
-
-// Puts what is told of a refusal.
-fn put_refusal(reply: Reply, out: &mut [u8]) -> usize
-    requires { ⌜ Fits (now out) 0 (refusalText reply) ⌝ }
-    ensures { λ r. ⌜ Put (now (out .entry)) 0 (refusalText reply) (now (out .exit)) r ⌝ }
-{
     let mut next = text::put(out, 0, b"refused ");
     next = text::put_decimal(out, next, reply.number as u64);
     next = text::put(out, next, b" at ");
     next = text::put_decimal(out, next, reply.place as u64);
     next = text::put(out, next, b": ");
-    next = put_meaning(reply.number, out, next);
-    put_place(reply, out, next)
+    put_words(reply.number, reply.place, out, next)
 }
 
-// Writes what is told of a refusal to the front of `out`. How many bytes it has.
-pub fn refusal(reply: Reply, out: &mut [u8; 256]) -> usize
-    ensures { λ r. ⌜ Counts r (now (out .exit)) ⌝ }
-    ensures { λ r. ⌜ take r (now (out .exit)) ≡ refusalText reply ⌝ }
+// Writes what is told of a reply to the front of `out`.
+pub fn reply_text(reply: Reply, out: &mut [u8]) -> Written
+    ensures { λ r. ⌜ r ≡ tellingReply reply (now (out .entry)) .answer ⌝ }
+    ensures { λ _. ⌜ now (out .exit) ≡ tellingReply reply (now (out .entry)) .lent ⌝ }
 {
-    put_refusal(reply, out)
+    let room = replies::refused_room(REPLY_BYTES, out.len());
+    if room.number != DONE {
+        return Written {
+            reply: room,
+            count: 0,
+        };
+    }
+    Written {
+        reply: room,
+        count: put_reply(reply, out),
+    }
 }
 
 // The place of the first cell that is shown around a place.
@@ -169,7 +171,7 @@ pub fn around(cells: &[u8], place: usize, out: &mut [u8; 128]) -> usize
 pub fn spot_of(p: Profile, place: usize) -> Spot
     ensures { λ r. ⌜ r ≡ spotOf p place ⌝ }
 {
-    if (replies::refused_profile(p).number != replies::DONE) | (NO_PLACE <= place) {
+    if (replies::refused_profile(p).number != DONE) | (NO_PLACE <= place) {
         return Spot {
             in_bridge: false,
             word: 0,

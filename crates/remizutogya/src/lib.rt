@@ -11,6 +11,7 @@ ghost use Rattle.cells.specs.Finding.{finding};
 ghost use Rattle.catalogue.specs.Catalogue.{publishing};
 ghost use Rattle.catalogue.specs.Rating.{rating};
 ghost use Rattle.code_as_text.specs.Printed.{listing};
+ghost use Rattle.outcomes.specs.Outcomes.{tellingReply};
 use catalogue::Published;
 use catalogue::Rated;
 use index_of_word::Indexed;
@@ -137,4 +138,13 @@ pub extern "C" fn remi_list_code(line: &[u8], out: &mut [u8]) -> Written
     ensures { λ _. ⌜ now (out .exit) ≡ listing (now (line .entry)) (now (out .entry)) .lent ⌝ }
 {
     code_as_text::list(line, out)
+}
+
+// Gives what a reply says, in words.
+#[no_mangle]
+pub extern "C" fn remi_reply_text(reply: Reply, out: &mut [u8]) -> Written
+    ensures { λ r. ⌜ r ≡ tellingReply reply (now (out .entry)) .answer ⌝ }
+    ensures { λ _. ⌜ now (out .exit) ≡ tellingReply reply (now (out .entry)) .lent ⌝ }
+{
+    outcomes::reply_text(reply, out)
 }

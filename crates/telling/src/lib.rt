@@ -35,9 +35,9 @@ pub fn end(line: Line, k: usize) {
 
 // A refusal.
 pub fn refusal(reply: Reply) {
-    let mut told = [0u8; 256];
-    let n = outcomes::refusal(reply, &mut told);
-    text(&told[..n]);
+    let mut told = [0u8; outcomes::REPLY_BYTES];
+    let count = outcomes::reply_text(reply, &mut told).count;
+    text(parts::first_cells(&told, count));
     text(b"\n");
 }
 

@@ -1,6 +1,6 @@
 //! Why and where a call refuses, in document 01's numbers.
 
-use crate::raw::{Reply, Written};
+use crate::raw::{self, Reply, Written};
 use std::fmt;
 
 /// A refusal: a number that says why, and a place that says where.
@@ -67,43 +67,17 @@ impl Error {
     pub const fn place(self) -> usize {
         self.place
     }
-
-    /// What the number means, and what stands at the place where it has one.
-    const fn meaning(self) -> (&'static str, Option<&'static str>) {
-        match self.number {
-            Error::LEVELS => ("q outside its range, 2 to 32", None),
-            Error::LENGTH => ("m outside its range, 1 to 128", None),
-            Error::REACH => ("x outside its range, 1 to 8", None),
-            Error::NO_MESSAGE => ("no words that carry messages", None),
-            Error::TABLE_SHORT => ("table shorter than 10(m+1) limbs", None),
-            Error::TABLE_WRONG => ("table does not belong", Some("first wrong row")),
-            Error::INPUT_LENGTH => (
-                "input length that fits no word, stream or bit count, or is over the most",
-                None,
-            ),
-            Error::BIT_BEHIND => ("bit after the last message bit is 1", Some("bit at")),
-            Error::OUTPUT_SHORT => ("lent output too short", None),
-            Error::CELL => ("cell at or above q", Some("cell at")),
-            Error::PATTERN => ("forbidden pattern", Some("top at")),
-            Error::NO_SUCH => ("index at or above N(m), or list row at or above 40", None),
-            Error::BRIDGE => ("wrong bridge cell", Some("cell at")),
-            Error::ALL_ZERO => ("word of all 0", Some("word at")),
-            Error::INDEX_ABOVE => ("index above 2^s", Some("word at")),
-            Error::ALL_TOP => ("word of all top", Some("word at")),
-            _ => ("number that has no meaning", None),
-        }
-    }
 }
 
 impl fmt::Display for Error {
     fn fmt(&self, f: &mut fmt::Formatter<'_>) -> fmt::Result {
-        let (number, place) = (self.number, self.place);
-        let (meaning, name) = self.meaning();
-        write!(f, "refused {number} at {place}: {meaning}")?;
-        match name {
-            Some(name) => write!(f, " ({name} {place})"),
-            None => Ok(()),
-        }
+        let reply = Reply {
+            number: self.number,
+            place: self.place,
+        };
+        let mut text = [0; raw::REPLY_BYTES];
+        let bytes = raw::reply_text(reply, &mut text).count;
+        f.write_str(str::from_utf8(&text[..bytes]).map_err(|_| fmt::Error)?)
     }
 }
 

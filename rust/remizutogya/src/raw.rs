@@ -31,6 +31,9 @@ pub struct Written {
     pub count: usize,
 }
 
+/// The bytes that [`remi_reply_text`] must be lent; no text is longer.
+pub const REPLY_BYTES: usize = 256;
+
 /// The answer of [`remi_index_of_word`].
 #[repr(C)]
 #[derive(Clone, Copy, Debug, PartialEq, Eq)]
@@ -155,6 +158,9 @@ unsafe extern "C" {
         out: *mut u8,
         out_bytes: usize,
     ) -> Written;
+
+    /// What a reply says in words, which is what [`crate::Error`] displays.
+    pub fn remi_reply_text(reply: Reply, out: *mut u8, out_bytes: usize) -> Written;
 }
 
 // The same calls with slices.
@@ -258,4 +264,9 @@ pub(crate) fn rate_of_words(p: Profile, table: &[u64], n: usize) -> Rated {
 pub(crate) fn list_code(line: &[u8], out: &mut [u8]) -> Written {
     // SAFETY: pointers and lengths are of slices, and `out` is lent to this call alone.
     unsafe { remi_list_code(line.as_ptr(), line.len(), out.as_mut_ptr(), out.len()) }
+}
+
+pub(crate) fn reply_text(reply: Reply, out: &mut [u8]) -> Written {
+    // SAFETY: pointer and length are a slice's.
+    unsafe { remi_reply_text(reply, out.as_mut_ptr(), out.len()) }
 }
