@@ -69,6 +69,15 @@ replyBytes = 256
 unfoldable pub tellingReply : Reply → List ℕ → Outcome
 tellingReply r lent = writing (roomRefusal replyBytes (length lent)) (replyText r) lent
 
+-- The place of a number is one among the cells handed in.
+abbrev pub isAmongCells : Words → Bool
+isAmongCells (plain text) = false
+isAmongCells (placed text) = false
+isAmongCells (amongCells text) = true
+
+unfoldable pub placeInCells : ℕ → Bool
+placeInCells number = isAmongCells (getD words number noWords)
+
 -- Of the cells around a place eight before it and eight behind it are shown, as far as there are so many.
 abbrev pub firstShown : ℕ → ℕ
 firstShown place = place - 8

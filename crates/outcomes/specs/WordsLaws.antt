@@ -1,16 +1,17 @@
--- Laws of the words on a number: which they are, their parts, and how long they are.
-use mathlib.Core.Path.{_≡_, refl}
-use mathlib.Core.Bool.{Bool, true, _&&_, and-eq-true-iff}
+-- Laws of the words on a number: which they are, their parts, how long they are, and for which numbers the place is among the cells.
+use mathlib.Core.Path.{_≡_, refl, sym}
+use mathlib.Core.Bool.{Bool, true, false, cond, not, _&&_, _||_, and-eq-true-iff, true≢false}
 use mathlib.Core.List.{List, [], _∷_}
 use Prim.Native.Nat.{ℕ, zero, suc, _+_, _^_, _≤_, _<_}
+use native.Mathlib.Nat.{zero-add, add-zero}
 use native.Mathlib.Omega.{arith}
-use lib.Dec.{leb}
+use lib.Dec.{eqb, leb}
 use lib.ListN.{length, getD, length-append}
-use borrow.Author.Tests.{leb-true}
+use borrow.Author.Tests.{leb-true, leb-false, le-leb, lt-leb, ne-eqb}
 use Rattle.text.specs.Text.{bytes, decimal}
 use Rattle.text.specs.DecimalLaws.{decimal-length}
 use Rattle.text.specs.PartLaws.{inRow}
-use Rattle.outcomes.specs.Outcomes.{Words, plain, placed, amongCells, words, noWords, placedText, spoken, wordsText}
+use Rattle.outcomes.specs.Outcomes.{Words, plain, placed, amongCells, words, noWords, placedText, spoken, wordsText, isAmongCells, placeInCells}
 
 -- The words on number k are the k-th of the list.
 pub words-at : {number k : ℕ} (place : ℕ) → number ≡ k → wordsText number place ≡ spoken (getD words k noWords) place
@@ -84,3 +85,46 @@ words-length number place small =
     let long = spoken-length (getD words number noWords) place small in
     let short = within-at 72 words number (omega arith) refl in
     omega arith
+
+-- The numbers whose place is among the cells: 10, 11, and 13 to 16.
+abbrev pub cellNumber : ℕ → Bool
+cellNumber number = (eqb number 10 || eqb number 11) || (leb 13 number && leb number 16)
+
+-- Two tests say the same.
+abbrev alike : Bool → Bool → Bool
+alike a b = cond a b (not b)
+
+alike-same : (a b : Bool) → alike a b ≡ true → a ≡ b
+alike-same true true e = refl
+alike-same true false e = absurd (true≢false (sym e))
+alike-same false true e = absurd (true≢false (sym e))
+alike-same false false e = refl
+
+-- So say the words of a list, of the numbers from i on.
+abbrev alikeFrom : ℕ → List Words → Bool
+alikeFrom i [] = true
+alikeFrom i (w ∷ list) = alike (cellNumber i) (isAmongCells w) && alikeFrom (suc i) list
+
+alike-at : (i : ℕ) (list : List Words) (k : ℕ) → alikeFrom i list ≡ true → k < length list → cellNumber (i + k) ≡ isAmongCells (getD list k noWords)
+alike-at i [] k all inside = absurd (omega arith)
+alike-at i (w ∷ list) zero all inside = rw add-zero (alike-same _ _ (and-eq-true-iff (alike (cellNumber i) (isAmongCells w)) _ .0 all .0))
+alike-at i (w ∷ list) (suc k) all inside =
+    let on : i + suc k ≡ suc i + k = omega arith in
+    rw on (alike-at (suc i) list k (and-eq-true-iff (alike (cellNumber i) (isAmongCells w)) _ .0 all .1) (omega arith))
+
+-- The words on every number say the same.
+pub cell-number : (number : ℕ) → cellNumber number ≡ placeInCells number
+unfolding placeInCells
+cell-number number = go (leb (length words) number) refl
+  where
+    go : (t : Bool) → leb (length words) number ≡ t → cellNumber number ≡ isAmongCells (getD words number noWords)
+    go false e = rw zero-add at (alike-at 0 words number refl (leb-false (length words) number e))
+    go true e =
+        let high = leb-true (length words) number e in
+        rw (
+          past-end words number high,
+          ne-eqb number 10 (λ is. omega arith),
+          ne-eqb number 11 (λ is. omega arith),
+          le-leb 13 number (omega arith),
+          lt-leb number 16 (omega arith),
+        )

@@ -4,7 +4,7 @@ ghost use mathlib.Core.Path.{_≡_};
 ghost use lib.ListN.{take};
 ghost use Rattle.io.specs.Counts.{Counts};
 ghost use Rattle.text.specs.Put.{Fits, Put};
-ghost use Rattle.outcomes.specs.Outcomes.{placedText, wordsText, replyText, tellingReply, firstShown, behindShown, cellText, cellsAround, spotOf};
+ghost use Rattle.outcomes.specs.Outcomes.{placedText, wordsText, replyText, tellingReply, placeInCells, firstShown, behindShown, cellText, cellsAround, spotOf};
 use replies::DONE;
 use replies::Profile;
 use replies::Reply;
@@ -111,6 +111,15 @@ pub fn reply_text(reply: Reply, out: &mut [u8]) -> Written
         reply: room,
         count: put_reply(reply, out),
     }
+}
+
+// The place of a number is one among the cells handed in.
+pub fn place_in_cells(number: u8) -> bool
+    ensures { λ r. ⌜ r ≡ placeInCells number ⌝ }
+{
+    (number == replies::CELL)
+        | (number == replies::PATTERN)
+        | ((replies::BRIDGE <= number) & (number <= replies::ALL_TOP))
 }
 
 // The place of the first cell that is shown around a place.

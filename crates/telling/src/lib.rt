@@ -84,7 +84,7 @@ fn around(name: &[u8], cells: &[u8], place: usize) {
 // cells around the place, which counts from the file's first cell.
 pub fn of_cells(reply: Reply, name: &[u8], cells: &[u8], place: usize) {
     length(reply, name, cells.len(), replies::MOST_CELLS, b" cells\n");
-    if replies::CELL <= reply.number {
+    if outcomes::place_in_cells(reply.number) {
         around(name, cells, place);
     }
 }
@@ -92,7 +92,7 @@ pub fn of_cells(reply: Reply, name: &[u8], cells: &[u8], place: usize) {
 // The same of a stream: besides, the word or the bridge that the place lies in.
 pub fn of_stream(p: Profile, reply: Reply, name: &[u8], cells: &[u8], place: usize) {
     of_cells(reply, name, cells, place);
-    if reply.number < replies::CELL {
+    if !outcomes::place_in_cells(reply.number) {
         return;
     }
     let spot = outcomes::spot_of(p, place);
