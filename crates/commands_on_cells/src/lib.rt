@@ -1,6 +1,8 @@
 // The subcommands on files of cells: read, turn, join, index, find; and write, on a file of bits.
 use command_line::Asked;
 use command_line::Line;
+use commands::lending;
+use commands::telling;
 use files::table::LIMBS;
 use parts::first_cells;
 use parts::first_limbs;

@@ -3,6 +3,8 @@ use crate::BYTES;
 use crate::CELLS;
 use command_line::Asked;
 use command_line::Line;
+use commands::lending;
+use commands::telling;
 use files::table::LIMBS;
 use parts::first_cells;
 use parts::first_limbs;

@@ -2,6 +2,10 @@
 ghost use Prim.Native.Nat.{_+_, _≤_};
 use command_line::Asked;
 use command_line::Line;
+use commands::lending;
+use commands::telling;
+use commands::telling::number;
+use commands::telling::text;
 use files::table::BYTES;
 use files::table::LIMBS;
 use numbers::Index;
@@ -9,8 +13,6 @@ use parts::first_cells;
 use parts::first_limbs;
 use replies::DONE;
 use replies::Profile;
-use telling::number;
-use telling::text;
 
 // The subcommands that take a profile and no cells, and any other word.
 enum Command {

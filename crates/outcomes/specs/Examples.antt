@@ -4,6 +4,7 @@ use mathlib.Core.Bool.{true, false}
 use mathlib.Core.List.{[], _∷_}
 use Rattle.replies.specs.declared.Profile.{Profile}
 use Rattle.replies.specs.Replies.{done, refused, orElse, outsideRefusal, profileRefusal, profileOf}
+use Rattle.replies.specs.Ranges.{mostCells}
 use Rattle.text.specs.Text.{bytes, decimal}
 use Rattle.outcomes.specs.Outcomes.{placedText, wordsText, replyText, cellsAround, nowhere, spotOf}
 
@@ -39,7 +40,7 @@ three-and-two = profileOf 4 3 2
 pub record Spots : Type 0 where
   pub in-word : spotOf three-and-two 6 ≡ record { in_bridge = false; word = 1; cell = 1; first = 5; last = 7 }
   pub in-bridge : spotOf three-and-two 9 ≡ record { in_bridge = true; word = 1; cell = 1; first = 8; last = 9 }
-  pub past-all-streams : spotOf three-and-two 65536 ≡ nowhere
+  pub past-all-streams : spotOf three-and-two mostCells ≡ nowhere
   pub out-of-range : spotOf (profileOf 4 0 2) 6 ≡ nowhere
 
 pub spots : Spots

@@ -7,6 +7,7 @@ use lib.ListN.{length, take, drop, getD}
 use Rattle.replies.specs.declared.Profile.{Profile}
 use Rattle.replies.specs.declared.Reply.{Reply}
 use Rattle.replies.specs.Replies.{isDone, profileRefusal, roomRefusal, Outcome, writing}
+use Rattle.replies.specs.Ranges.{mostCells}
 use Rattle.text.specs.Text.{bytes, decimal}
 use Rattle.outcomes.specs.declared.Spot.{Spot}
 
@@ -110,9 +111,9 @@ abbrev pub nowhere : Spot
 nowhere = record { in_bridge = false; word = 0; cell = 0; first = 0; last = 0 }
 
 -- Where a place of a stream lies: behind so many words with their bridges, at the cell that is left over, one of the word if it is below m.
--- A profile out of range has no stream, and no stream has a place from 65,536 on.
+-- A profile out of range has no stream, and no stream has so many cells as the pattern finder takes at most.
 unfoldable pub spotOf : Profile → ℕ → Spot
 spotOf p place =
     let part = p .m + p .x in
-    cond (not (isDone (profileRefusal p)) || leb 65536 place) nowhere
+    cond (not (isDone (profileRefusal p)) || leb mostCells place) nowhere
     (spotIn (ltb (place % part) (p .m)) p (place / part) (place - place % part) (place % part))

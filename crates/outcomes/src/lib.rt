@@ -13,9 +13,6 @@ use replies::Written;
 // No more bytes are told of a reply.
 pub const REPLY_BYTES: usize = 256;
 
-// No stream has so many cells.
-const NO_PLACE: usize = 65536;
-
 // Cells that are shown before a place, and behind it.
 const SHOWN: usize = 8;
 
@@ -180,7 +177,7 @@ pub fn around(cells: &[u8], place: usize, out: &mut [u8; 128]) -> usize
 pub fn spot_of(p: Profile, place: usize) -> Spot
     ensures { λ r. ⌜ r ≡ spotOf p place ⌝ }
 {
-    if (replies::refused_profile(p).number != DONE) | (NO_PLACE <= place) {
+    if (replies::refused_profile(p).number != DONE) | (replies::MOST_CELLS <= place) {
         return Spot {
             in_bridge: false,
             word: 0,

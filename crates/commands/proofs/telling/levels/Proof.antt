@@ -1,10 +1,10 @@
--- `telling::levels` ends after the last level.
+-- `commands::telling::levels` ends after the last level.
 use Prim.Native.Nat.{_-_, _≤_}
 use mathlib.Core.Path.{_≡_}
 use lib.ListN.{length}
 use borrow.Author.Needs.{needs}
-use Rattle.telling.proofs.levels.Statement.{statement}
-use Rattle.telling.proofs.levels.Tie as tie
+use Rattle.commands.proofs.telling.levels.Statement.{statement}
+use Rattle.commands.proofs.telling.levels.Tie as tie
 
 abbrev Inv-loop : tie.InvT-loop
 Inv-loop cells i₀ t3 i-end i = (i-end ≡ length cells) × (i ≤ i-end)
