@@ -11,8 +11,10 @@ use borrow.Author.Tests.{leb-true, leb-false}
 use Rattle.replies.specs.declared.Profile.{Profile}
 use Rattle.text.specs.Text.{bytes}
 use Rattle.text.specs.Line.{lineOf, threeDigits, profileIn, isLineOf}
+use Rattle.text.specs.Put.{Put}
+use Rattle.text.specs.PutLaws.{put-front}
 use Rattle.text.specs.LineLaws.{line-read, line-of-itself, is-line, line-short}
-use Rattle.code_as_text.specs.Printed.{answerText, printed}
+use Rattle.code_as_text.specs.Printed.{answerText, printed, deciding, PrintsFor}
 use Rattle.code_as_text.specs.AnswerLaws.{printed-answer, printed-refused}
 
 -- For the line of a profile whose numbers have at most three digits each, what is printed for the profile is printed.
@@ -27,20 +29,28 @@ printed-otherwise line none = printed-refused line refl refl (go (isLineOf line 
     go true e = let both = is-line line (profileIn line) e in absurd (none (profileIn line) (both .1) (both .0))
     go false e = refl
 
--- Thirteen bytes or more are no line.
-long-is-no-line : (line : List ℕ) → 13 ≤ length line → (p : Profile) → threeDigits p ≡ true → line ≡ lineOf p → ⊥
+-- As many bytes as decide, or more, are no line.
+long-is-no-line : (line : List ℕ) → deciding ≤ length line → (p : Profile) → threeDigits p ≡ true → line ≡ lineOf p → ⊥
 long-is-no-line line long p short same =
     let most = line-short p short in
     let more = rw same at long in
     omega arith
 
--- Thirteen bytes decide: no line has more than twelve, so what stands behind them changes nothing.
-pub thirteen-decide : (input : List ℕ) → printed (take 13 input) ≡ printed input
-thirteen-decide input = go (leb (length input) 13) refl
+-- Thirteen bytes decide, and so do more: no line has more than twelve, so what stands behind them changes nothing.
+pub more-decide : (most : ℕ) → deciding ≤ most → (input : List ℕ) → printed (take most input) ≡ printed input
+more-decide most enough input = go (leb (length input) most) refl
   where
-    go : (t : Bool) → leb (length input) 13 ≡ t → printed (take 13 input) ≡ printed input
-    go true e = rw (take-all 13 input (leb-true (length input) 13 e))
+    go : (t : Bool) → leb (length input) most ≡ t → printed (take most input) ≡ printed input
+    go true e = rw (take-all most input (leb-true (length input) most e))
     go false e =
-        let long = leb-false (length input) 13 e in
-        printed-otherwise (take 13 input) (long-is-no-line (take 13 input) (rw length-take (omega arith)))
+        let long = leb-false (length input) most e in
+        printed-otherwise (take most input) (long-is-no-line (take most input) (rw length-take (omega arith)))
         ∙ sym (printed-otherwise input (long-is-no-line input (omega arith)))
+
+pub thirteen-decide : (input : List ℕ) → printed (take deciding input) ≡ printed input
+thirteen-decide = more-decide deciding (omega arith)
+
+-- What is put for the bytes that were read is printed for every input that starts with them, if enough were asked for.
+pub prints-for : (read lent : List ℕ) (most : ℕ) {count : ℕ} {after : List ℕ} → deciding ≤ most → Put lent 0 (printed read) after count
+    → PrintsFor read most count after
+prints-for read lent most enough put input same = put-front put ∙ rw (← same) (more-decide most enough input)

@@ -1,9 +1,10 @@
 -- What the listing program prints.
 use mathlib.Core.Bool.{cond, _&&_}
 use mathlib.Core.List.{List, [], _++_}
+use mathlib.Core.Path.{_≡_}
 use Prim.Native.Nat.{ℕ, zero, suc, _^_}
 use lib.Dec.{ltb, leb, eqb}
-use lib.ListN.{length}
+use lib.ListN.{length, take}
 use Rattle.messages.specs.Carrying.{messageRefusal}
 use Rattle.replies.specs.declared.Profile.{Profile}
 use Rattle.replies.specs.Replies.{isDone, profileRefusal, roomRefusal, Outcome, writing}
@@ -47,6 +48,14 @@ answerText p =
 -- What is printed for any bytes: they are the line of the numbers in them, or they are refused.
 unfoldable pub printed : List ℕ → List ℕ
 printed line = cond (isLineOf line (profileIn line)) (answerText (profileIn line)) (bytes "refused line\n")
+
+-- So many bytes of an input decide what is printed for it.
+abbrev pub deciding : ℕ
+deciding = 13
+
+-- The first `count` bytes of a text are what is printed for every input whose first `most` bytes are those that were read.
+abbrev pub PrintsFor : List ℕ → ℕ → ℕ → List ℕ → Type 0
+PrintsFor read most count text = (input : List ℕ) → take most input ≡ read → take count text ≡ printed input
 
 -- No more than so many bytes are printed.
 abbrev pub mostBytes : ℕ

@@ -3,18 +3,22 @@ ghost use mathlib.Core.List.{_++_};
 ghost use mathlib.Core.Path.{_≡_};
 ghost use Prim.Native.Nat.{_≤_, _<_};
 ghost use lib.Dec.{ltb};
-ghost use lib.ListN.{length};
+ghost use lib.ListN.{length, take};
+ghost use Rattle.io.specs.Counts.{Counts};
 ghost use Rattle.limbs.specs.Limbs.{value};
 ghost use Rattle.replies.specs.Ranges.{InRange};
 ghost use Rattle.profiles.specs.Profiles.{wordCount};
 ghost use Rattle.tables.specs.Tables.{Belongs};
 ghost use Rattle.text.specs.Put.{Fits, Put};
-ghost use Rattle.code_as_text.specs.Printed.{statedLength, lastCarrying, header, messageText, wordLine, wordLines, answerText, printed, mostBytes, listing};
+ghost use Rattle.code_as_text.specs.Printed.{statedLength, lastCarrying, header, messageText, wordLine, wordLines, answerText, printed, deciding, PrintsFor, mostBytes, listing};
 use limbs::Order;
 use numbers::Index;
 use replies::DONE;
 use replies::Profile;
 use replies::Written;
+
+// So many bytes of an input decide what is printed for it.
+pub const DECIDING: usize = 13;
 
 // No text is longer.
 pub const MOST_BYTES: usize = 262144;
@@ -163,6 +167,16 @@ fn put_printed(line: &[u8], out: &mut [u8]) -> usize
         return put_answer(p, out);
     }
     text::put(out, 0, b"refused line\n")
+}
+
+// Puts what is printed for an input to the front of `out`, of which as many bytes as `read` has were
+// asked for, and n were there.
+pub fn put_for(read: &[u8], n: usize, out: &mut [u8]) -> usize
+    requires { ⌜ (deciding ≤ length (now read)) × (n ≤ length (now read)) × (mostBytes ≤ length (now out)) ⌝ }
+    ensures { λ r. ⌜ Counts r (now (out .exit)) ⌝ }
+    ensures { λ r. ⌜ PrintsFor (take n (now (read .entry))) (length (now (read .entry))) r (now (out .exit)) ⌝ }
+{
+    put_printed(&read[..n], out)
 }
 
 // Writes what the listing program prints for the bytes that it read to the front of `out`.

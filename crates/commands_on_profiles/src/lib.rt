@@ -272,7 +272,7 @@ fn list(p: Profile) {
     let mut line = [0u8; 12];
     let end = text::line::put_profile(p, &mut line);
     let n = text::put(&mut line, end, b"\n");
-    let mut told = [0u8; 262144];
+    let mut told = [0u8; code_as_text::MOST_BYTES];
     let listed = code_as_text::list(&line[..n], &mut told);
     text(first_cells(&told, listed.count));
 }
