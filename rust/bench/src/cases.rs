@@ -10,10 +10,10 @@ const RUN: usize = 65_536;
 
 /// The profiles that are measured, each with the ratio that writing may have at most.
 pub const PROFILES: [(Profile, f64); 4] = [
-    (input::profile(4, 97, 1), 0.80),
-    (input::profile(4, 14, 1), 0.40),
-    (input::profile(8, 103, 1), 0.65),
-    (input::profile(32, 117, 1), 0.40),
+    (Profile::new(4, 97, 1), 0.80),
+    (Profile::new(4, 14, 1), 0.40),
+    (Profile::new(8, 103, 1), 0.65),
+    (Profile::new(32, 117, 1), 0.40),
 ];
 
 /// A call on both sides.

@@ -18,7 +18,7 @@ fn streams() -> Vec<(Profile, usize)> {
         .flat_map(|(p, _)| WORDS.map(|n| (p, n)));
     let over_length = LENGTHS
         .into_iter()
-        .map(|m| (input::profile(4, m, 1), WORDS[2]));
+        .map(|m| (Profile::new(4, m, 1), WORDS[2]));
     over_words.chain(over_length).collect()
 }
 

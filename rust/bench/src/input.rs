@@ -2,11 +2,6 @@
 
 use peer::Profile;
 
-/// A profile.
-pub const fn profile(q: usize, m: usize, x: usize) -> Profile {
-    Profile { q, m, x }
-}
-
 /// A profile in short.
 pub fn name(p: Profile) -> String {
     format!("q={} m={} x={}", p.q, p.m, p.x)
@@ -14,11 +9,7 @@ pub fn name(p: Profile) -> String {
 
 /// The profile as the library takes it.
 pub fn lent(p: Profile) -> remizutogya::Profile {
-    remizutogya::Profile {
-        q: p.q,
-        m: p.m,
-        x: p.x,
-    }
+    remizutogya::Profile::new(p.q, p.m, p.x)
 }
 
 /// Random numbers, the same in each run.

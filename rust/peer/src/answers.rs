@@ -32,6 +32,11 @@ pub struct Profile {
 }
 
 impl Profile {
+    /// A profile of q levels, word length m and reach x.
+    pub const fn new(q: usize, m: usize, x: usize) -> Profile {
+        Profile { q, m, x }
+    }
+
     /// The top level. Only for a profile in range.
     pub(crate) fn top(self) -> u8 {
         (self.q - 1) as u8

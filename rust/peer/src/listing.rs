@@ -46,7 +46,7 @@ fn profile_in(line: &[u8]) -> Option<Profile> {
         .map(number_in)
         .collect();
     match numbers?[..] {
-        [q, m, x] => Some(Profile { q, m, x }),
+        [q, m, x] => Some(Profile::new(q, m, x)),
         _ => None,
     }
 }

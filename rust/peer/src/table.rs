@@ -72,11 +72,7 @@ pub fn build(p: Profile, out: &mut [u64]) -> Answer {
 
 /// Hands out the rows N(0) to N(m) of q = 4, x = 1.
 pub fn shipped(m: usize, out: &mut [u64]) -> Answer {
-    let p = Profile {
-        q: SHIPPED_Q,
-        m,
-        x: SHIPPED_X,
-    };
+    let p = Profile::new(SHIPPED_Q, m, SHIPPED_X);
     Answer::of(refuse_if(!LENGTH_RANGE.contains(&m), LENGTH).and_then(|()| put_rows(p, out)))
 }
 

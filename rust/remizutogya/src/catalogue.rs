@@ -28,7 +28,7 @@ pub struct Rate {
 /// ```
 /// use remizutogya::{Profile, Published, published_profile};
 ///
-/// let last = Published { profile: Profile { q: 32, m: 108, x: 2 }, s: 539 };
+/// let last = Published { profile: Profile::new(32, 108, 2), s: 539 };
 /// assert_eq!(published_profile(39), Ok(last));
 /// ```
 ///
@@ -38,7 +38,7 @@ pub struct Rate {
 pub fn published_profile(row: usize) -> Result<Published, Error> {
     let raw::Published { reply, q, x, m, s } = raw::remi_published_profile(row);
     reply.giving(Published {
-        profile: Profile { q, m, x },
+        profile: Profile::new(q, m, x),
         s,
     })
 }
@@ -48,7 +48,7 @@ pub fn published_profile(row: usize) -> Result<Published, Error> {
 /// ```
 /// use remizutogya::{Profile, Rate, build_table, rate_of_words, table_limbs};
 ///
-/// let p = Profile { q: 4, m: 9, x: 1 };
+/// let p = Profile::new(4, 9, 1);
 /// let mut table = [0; table_limbs(9)];
 /// build_table(p, &mut table)?;
 /// assert_eq!(rate_of_words(p, &table, 2)?, Rate { bits: 34, cells: 20 });

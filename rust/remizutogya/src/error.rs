@@ -14,7 +14,7 @@ use std::fmt;
 /// assert_eq!((refused.number(), refused.place()), (Error::PATTERN, 1));
 /// assert_eq!(refused.to_string(), "refused 11 at 1: forbidden pattern (top at 1)");
 ///
-/// let refused = rate_of_words(Profile { q: 4, m: 5, x: 1 }, &[], 1).unwrap_err();
+/// let refused = rate_of_words(Profile::new(4, 5, 1), &[], 1).unwrap_err();
 /// assert_eq!(refused.to_string(), "refused 5 at 0: table shorter than 10(m+1) limbs");
 /// ```
 #[derive(Clone, Copy, Debug, PartialEq, Eq, Hash)]

@@ -19,7 +19,7 @@
 //! ```
 //! use remizutogya::{Error, Profile, build_table, read_stream, stream_cells, table_limbs, write_stream};
 //!
-//! const P: Profile = Profile { q: 4, m: 5, x: 1 };
+//! const P: Profile = Profile::new(4, 5, 1);
 //!
 //! let mut table = [0; table_limbs(P.m)];
 //! build_table(P, &mut table)?;

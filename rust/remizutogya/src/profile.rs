@@ -7,7 +7,7 @@
 /// ```
 /// use remizutogya::{Error, Profile, join_streams};
 ///
-/// let refused = join_streams(Profile { q: 33, m: 5, x: 1 }, &[], &[], &mut []).unwrap_err();
+/// let refused = join_streams(Profile::new(33, 5, 1), &[], &[], &mut []).unwrap_err();
 /// assert_eq!(refused.number(), Error::LEVELS);
 /// ```
 #[repr(C)]
@@ -20,4 +20,12 @@ pub struct Profile {
     /// The reach: the most cells below top between the tops of a forbidden pattern, and the cells
     /// of a bridge.
     pub x: usize,
+}
+
+impl Profile {
+    /// A profile of q levels, word length m and reach x.
+    #[must_use]
+    pub const fn new(q: usize, m: usize, x: usize) -> Self {
+        Profile { q, m, x }
+    }
 }

@@ -11,7 +11,7 @@ pub const MOST_WORDS: usize = 256;
 /// ```
 /// use remizutogya::{Profile, stream_cells};
 ///
-/// assert_eq!(stream_cells(Profile { q: 4, m: 5, x: 1 }, 2), 11);
+/// assert_eq!(stream_cells(Profile::new(4, 5, 1), 2), 11);
 /// ```
 pub const fn stream_cells(p: Profile, n: usize) -> usize {
     let bridges = n.saturating_sub(1);
@@ -28,7 +28,7 @@ pub const fn stream_cells(p: Profile, n: usize) -> usize {
 /// ```
 /// use remizutogya::{Profile, build_table, stream_cells, table_limbs, write_stream};
 ///
-/// const P: Profile = Profile { q: 2, m: 3, x: 1 };
+/// const P: Profile = Profile::new(2, 3, 1);
 /// let mut table = [0; table_limbs(P.m)];
 /// build_table(P, &mut table)?;
 /// // The messages 0 and 3, of two bits each.
@@ -60,7 +60,7 @@ pub fn write_stream(
 /// ```
 /// use remizutogya::{Profile, build_table, read_stream, table_limbs};
 ///
-/// let p = Profile { q: 2, m: 3, x: 1 };
+/// let p = Profile::new(2, 3, 1);
 /// let mut table = [0; table_limbs(3)];
 /// build_table(p, &mut table)?;
 /// let mut bytes = [0];
@@ -89,7 +89,7 @@ pub fn read_stream(
 /// use remizutogya::{Profile, join_streams};
 ///
 /// let mut cells = [0; 7];
-/// assert_eq!(join_streams(Profile { q: 2, m: 3, x: 1 }, &[0, 0, 1], &[1, 0, 0], &mut cells), Ok(7));
+/// assert_eq!(join_streams(Profile::new(2, 3, 1), &[0, 0, 1], &[1, 0, 0], &mut cells), Ok(7));
 /// assert_eq!(cells, [0, 0, 1, 1, 1, 0, 0]);
 /// ```
 ///
@@ -112,7 +112,7 @@ pub fn join_streams(
 /// use remizutogya::{Profile, turn_stream};
 ///
 /// let mut cells = [0; 7];
-/// assert_eq!(turn_stream(Profile { q: 4, m: 3, x: 1 }, &[0, 1, 2, 0, 3, 3, 0], &mut cells), Ok(7));
+/// assert_eq!(turn_stream(Profile::new(4, 3, 1), &[0, 1, 2, 0, 3, 3, 0], &mut cells), Ok(7));
 /// assert_eq!(cells, [0, 3, 3, 0, 2, 1, 0]);
 /// ```
 ///

@@ -17,7 +17,7 @@ pub const fn table_limbs(m: usize) -> usize {
 /// use remizutogya::{LIMBS, Profile, build_table, table_limbs};
 ///
 /// let mut table = [0; table_limbs(6)];
-/// assert_eq!(build_table(Profile { q: 4, m: 6, x: 1 }, &mut table), Ok(70));
+/// assert_eq!(build_table(Profile::new(4, 6, 1), &mut table), Ok(70));
 /// assert_eq!(table[6 * LIMBS], 3409);
 /// ```
 ///
@@ -36,7 +36,7 @@ pub fn build_table(p: Profile, out: &mut [u64]) -> Result<usize, Error> {
 ///
 /// let (mut shipped, mut built) = ([0; table_limbs(128)], [0; table_limbs(128)]);
 /// assert_eq!(shipped_table(128, &mut shipped), Ok(1290));
-/// assert_eq!(build_table(Profile { q: 4, m: 128, x: 1 }, &mut built), Ok(1290));
+/// assert_eq!(build_table(Profile::new(4, 128, 1), &mut built), Ok(1290));
 /// assert_eq!(shipped, built);
 /// ```
 ///

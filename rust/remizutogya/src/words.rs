@@ -10,7 +10,7 @@ pub const MOST_FOUND_CELLS: usize = 65_536;
 /// ```
 /// use remizutogya::{Index, Profile, build_table, index_of_word, table_limbs};
 ///
-/// let p = Profile { q: 4, m: 6, x: 2 };
+/// let p = Profile::new(4, 6, 2);
 /// let mut table = [0; table_limbs(6)];
 /// build_table(p, &mut table)?;
 /// assert_eq!(index_of_word(p, &table, &[0, 1, 1, 3, 0, 2])?, Index::from(334));
@@ -30,7 +30,7 @@ pub fn index_of_word(p: Profile, table: &[u64], cells: &[u8]) -> Result<Index, E
 /// ```
 /// use remizutogya::{Index, Profile, build_table, table_limbs, word_of_index};
 ///
-/// let p = Profile { q: 4, m: 6, x: 2 };
+/// let p = Profile::new(4, 6, 2);
 /// let mut table = [0; table_limbs(6)];
 /// build_table(p, &mut table)?;
 /// let mut word = [0; 6];
