@@ -180,6 +180,7 @@ static void nothing_lent(lending l)
     replied("find_pattern", remi_find_pattern(4, 1, l.cells, 0), REMI_DONE, 0);
     rated_nothing("rate_of_words", remi_rate_of_words(GOOD, l.table, 0, 0), REMI_TABLE_SHORT);
     wrote_nothing("list_code", remi_list_code(l.cells, 0, l.out, 0), REMI_OUTPUT_SHORT);
+    wrote_nothing("reply_text", remi_reply_text((remi_reply){REMI_PATTERN, 345}, l.out, 0), REMI_OUTPUT_SHORT);
     for (size_t i = 0; i < 2; i++) {
         remi_profile p = silent[i];
         wrote_nothing("write_stream", remi_write_stream(p, l.table, 0, l.cells, 0, 0, l.out, 0),
@@ -296,6 +297,23 @@ static void no_line(const uint8_t *line)
     must(got.count == strlen(refused) && memcmp(text, right, sizeof text) == 0, "list_code");
 }
 
+/* A reply of any number is told, where there is room for the longest text; nothing behind the text is touched. */
+static void replies_told(void)
+{
+    static const char unknown[] = "refused 255 at 18446744073709551615: number that has no meaning";
+    const remi_reply largest = {255, SIZE_MAX};
+    uint8_t text[REMI_REPLY_BYTES], right[REMI_REPLY_BYTES];
+    memset(text, MARK, sizeof text);
+    memset(right, MARK, sizeof right);
+    wrote_nothing("reply_text", remi_reply_text(largest, text, sizeof text - 1), REMI_OUTPUT_SHORT);
+    must(memcmp(text, right, sizeof text) == 0, "reply_text");
+
+    memcpy(right, unknown, strlen(unknown));
+    remi_written got = remi_reply_text(largest, text, sizeof text);
+    replied("reply_text", got.reply, REMI_DONE, 0);
+    must(got.count == strlen(unknown) && memcmp(text, right, sizeof text) == 0, "reply_text");
+}
+
 /* Makes the buffers: outputs marked, and the table of the good profile. */
 static void make_buffers(void)
 {
@@ -318,6 +336,7 @@ int main(void)
     bad_profiles(all);
     bad_numbers();
     bad_cells();
+    replies_told();
     for (size_t i = 0; i < 2; i++) {
         bad_profiles(nothing[i]);
         nothing_lent(nothing[i]);

@@ -18,10 +18,10 @@ LARGE = 18446744073709551600
 CRATES = Path(__file__).parent.parent / "crates"
 script, answers, met = [], [], defaultdict(set)
 
-# What calls_run runs, by its number in a script, 1 for the first; all but the last are calls.
+# What calls_run runs, by its number in a script, 1 for the first; all are calls but the long stream.
 CALLS = (
     *("build_table", "shipped_table", "index_of_word", "word_of_index", "find_pattern", "published_profile", "rate_of_words"),
-    *("write_stream", "read_stream", "join_streams", "turn_stream", "long_stream"),
+    *("write_stream", "read_stream", "join_streams", "turn_stream", "long_stream", "reply_text"),
 )
 
 # A long stream gives the number of writing it.

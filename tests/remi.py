@@ -19,24 +19,6 @@ NUMBERS = ("Q", "X", "INDEX", "WORDS", "ROW")
 MOST_ARGUMENT, MOST_NAME = 4096, 255
 MOST_CELLS, MOST_BYTES = 65536, 20448
 
-MEANINGS = {
-    1: "q outside its range, 2 to 32",
-    2: "m outside its range, 1 to 128",
-    3: "x outside its range, 1 to 8",
-    4: "no words that carry messages",
-    5: "table shorter than 10(m+1) limbs",
-    6: "table does not belong",
-    7: "input length that fits no word, stream or bit count, or is over the most",
-    8: "bit after the last message bit is 1",
-    10: "cell at or above q",
-    11: "forbidden pattern",
-    12: "index at or above N(m), or list row at or above 40",
-    13: "wrong bridge cell",
-    14: "word of all 0",
-    15: "index above 2^s",
-}
-PLACES = {6: "first wrong row", 8: "bit at", 10: "cell at", 11: "top at", 13: "cell at", 14: "word at", 15: "word at"}
-
 
 class Wrong(Exception):
     """The command line is not right."""
@@ -52,10 +34,8 @@ class Refused(Exception):
 
 def settle(reply, told=""):
     """Goes on if a call is done; else its number and place are told, and what else there is to tell."""
-    number = reply.number
-    where = f" ({PLACES[number]} {reply.place})" if number in PLACES else ""
-    if number:
-        raise Refused(f"refused {number} at {reply.place}: {MEANINGS[number]}{where}\n{told}")
+    if reply.number:
+        raise Refused(f"{second.in_words(reply)}\n{told}")
 
 
 class Disk:

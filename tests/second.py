@@ -31,6 +31,26 @@ class Reply(NamedTuple):
 
 DONE = Reply(0, 0)
 
+# What each number means, and what stands at its place where it has one.
+WORDS = {
+    1: ("q outside its range, 2 to 32",),
+    2: ("m outside its range, 1 to 128",),
+    3: ("x outside its range, 1 to 8",),
+    4: ("no words that carry messages",),
+    5: ("table shorter than 10(m+1) limbs",),
+    6: ("table does not belong", "first wrong row"),
+    7: ("input length that fits no word, stream or bit count, or is over the most",),
+    8: ("bit after the last message bit is 1", "bit at"),
+    9: ("lent output too short",),
+    10: ("cell at or above q", "cell at"),
+    11: ("forbidden pattern", "top at"),
+    12: ("index at or above N(m), or list row at or above 40",),
+    13: ("wrong bridge cell", "cell at"),
+    14: ("word of all 0", "word at"),
+    15: ("index above 2^s", "word at"),
+    16: ("word of all top", "word at"),
+}
+
 
 def refused(number, place=0):
     return Reply(number, place)
@@ -385,3 +405,15 @@ def printed(data):
 
 def list_code(data, lent):
     return written(refused(9) if len(lent) < 262144 else None, printed(data).encode(), lent)
+
+
+def in_words(reply):
+    """What a person is told of a reply."""
+    if reply.number == 0:
+        return "done"
+    meaning, *named = WORDS.get(reply.number, ("number that has no meaning",))
+    return f"refused {reply.number} at {reply.place}: {meaning}" + "".join(f" ({name} {reply.place})" for name in named)
+
+
+def reply_text(reply, lent):
+    return written(refused(9) if len(lent) < 256 else None, list(in_words(reply).encode()), lent)

@@ -1,10 +1,11 @@
-// Runs every call on words, tables, profiles and streams over a script of cases, and prints every answer
+// Runs every call but the listing over a script of cases, and prints every answer
 // with what was lent behind it. The script and what must be printed are written by tests/calls.py, which
 // shares no code with the crates.
 mod long;
 mod profiles;
 mod stream;
 mod table;
+mod texts;
 mod word;
 
 use script::show;
@@ -29,6 +30,7 @@ fn case() {
         10 => stream::join(&text, at),
         11 => stream::turn(&text, at),
         12 => long::stream(&text, at),
+        13 => texts::reply_text(&text, at),
         _ => show::end(),
     }
 }

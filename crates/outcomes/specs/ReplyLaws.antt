@@ -7,10 +7,10 @@ use native.Mathlib.Omega.{arith}
 use lib.ListN.{length, length-append}
 use borrow.Author.Tests.{eq-eqb, ne-eqb}
 use Rattle.replies.specs.declared.Reply.{Reply}
-use Rattle.replies.specs.Replies.{done, isDone, roomRefusal}
+use Rattle.replies.specs.Replies.{done, isDone, roomRefusal, Comes}
 use Rattle.replies.specs.NumberLaws.{picked}
 use Rattle.replies.specs.ReplyLaws.{has-room, room-enough}
-use Rattle.replies.specs.WritingLaws.{Comes, writing-refused, writing-done}
+use Rattle.replies.specs.WritingLaws.{writing-refused, writing-done}
 use Rattle.text.specs.Text.{bytes, decimal}
 use Rattle.text.specs.DecimalLaws.{decimal-length}
 use Rattle.text.specs.Put.{Put}

@@ -1,5 +1,5 @@
-//! What a call is handed and what it answers: the profile, the answer, the reply numbers, and the tests that
-//! most calls begin with.
+//! What a call is handed and what it answers: the profile, the answer, the reply numbers and what they mean, and
+//! the tests that most calls begin with.
 
 use std::ops::RangeInclusive;
 
@@ -18,6 +18,32 @@ pub const NO_SUCH: u8 = 12;
 pub const BRIDGE: u8 = 13;
 pub const ALL_ZERO: u8 = 14;
 pub const INDEX_ABOVE: u8 = 15;
+
+/// What the numbers mean, from 1 on, and what stands at the place of those that have one.
+const MEANINGS: [(&str, &str); 16] = [
+    ("q outside its range, 2 to 32", ""),
+    ("m outside its range, 1 to 128", ""),
+    ("x outside its range, 1 to 8", ""),
+    ("no words that carry messages", ""),
+    ("table shorter than 10(m+1) limbs", ""),
+    ("table does not belong", "first wrong row"),
+    (
+        "input length that fits no word, stream or bit count, or is over the most",
+        "",
+    ),
+    ("bit after the last message bit is 1", "bit at"),
+    ("lent output too short", ""),
+    ("cell at or above q", "cell at"),
+    ("forbidden pattern", "top at"),
+    ("index at or above N(m), or list row at or above 40", ""),
+    ("wrong bridge cell", "cell at"),
+    ("word of all 0", "word at"),
+    ("index above 2^s", "word at"),
+    ("word of all top", "word at"),
+];
+
+/// The room that the text of a reply asks for, in bytes.
+const TEXT_ROOM: usize = 256;
 
 pub const LEVELS_RANGE: RangeInclusive<usize> = 2..=32;
 pub const LENGTH_RANGE: RangeInclusive<usize> = 1..=128;
@@ -107,4 +133,27 @@ pub fn test_profile(p: Profile) -> Tested<()> {
     refuse_if(!LEVELS_RANGE.contains(&p.q), LEVELS)?;
     refuse_if(!LENGTH_RANGE.contains(&p.m), LENGTH)?;
     refuse_if(!REACH_RANGE.contains(&p.x), REACH)
+}
+
+/// Writes what a reply with a number and a place says in words.
+pub fn reply_text(number: u8, place: usize, out: &mut [u8]) -> Answer {
+    Answer::of(tested_text(number, place, out))
+}
+
+fn tested_text(number: u8, place: usize, out: &mut [u8]) -> Tested<usize> {
+    refuse_if(out.len() < TEXT_ROOM, OUTPUT_SHORT)?;
+    let text = match number {
+        0 => String::from("done"),
+        _ => format!("refused {number} at {place}: {}", meaning(number, place)),
+    };
+    out[..text.len()].copy_from_slice(text.as_bytes());
+    Ok(text.len())
+}
+
+fn meaning(number: u8, place: usize) -> String {
+    match MEANINGS.get(usize::from(number) - 1) {
+        None => String::from("number that has no meaning"),
+        Some((meaning, "")) => String::from(*meaning),
+        Some((meaning, named)) => format!("{meaning} ({named} {place})"),
+    }
 }

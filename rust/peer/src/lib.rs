@@ -12,7 +12,7 @@ mod streams;
 mod table;
 mod words;
 
-pub use answers::{Answer, Profile};
+pub use answers::{Answer, Profile, reply_text};
 pub use catalogue::{published, rate};
 pub use cells::find;
 pub use listing::list;

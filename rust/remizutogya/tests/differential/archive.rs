@@ -155,3 +155,7 @@ pub fn rate(p: peer::Profile, table: &[u64], n: usize) -> Given {
 pub fn list(line: &[u8], out: &mut [u8]) -> Written {
     unsafe { raw::remi_list_code(line.as_ptr(), line.len(), out.as_mut_ptr(), out.len()) }
 }
+
+pub fn reply_text(number: u8, place: usize, out: &mut [u8]) -> Written {
+    unsafe { raw::remi_reply_text(Reply { number, place }, out.as_mut_ptr(), out.len()) }
+}

@@ -6,8 +6,9 @@ use crate::random::Random;
 use crate::{archive, lines, profiles, streams, words};
 use peer::Profile;
 
-/// The room that the listing call asks for.
+/// The rooms that the listing and the text of a reply ask for.
 const LISTING_ROOM: usize = 262_144;
+const TEXT_ROOM: usize = 256;
 
 pub fn build(random: &mut Random, p: Profile) -> u8 {
     let lent = Lent::limbs(random, profiles::table_limbs(p));
@@ -127,4 +128,12 @@ pub fn list(random: &mut Random, _: Profile) -> u8 {
         archive,
         peer,
     )
+}
+
+pub fn reply_text(random: &mut Random, _: Profile) -> u8 {
+    let (number, place) = lines::reply(random);
+    let lent = Lent::bytes(random, TEXT_ROOM);
+    let archive = lent.after(|out| archive::reply_text(number, place, out));
+    let peer = lent.after(|out| peer::reply_text(number, place, out));
+    agreed(&(number, place, lent.room()), archive, peer)
 }

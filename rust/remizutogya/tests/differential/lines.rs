@@ -1,4 +1,4 @@
-//! Lines for the listing, rows of the published profiles, and numbers of words to rate.
+//! Lines for the listing, rows of the published profiles, numbers of words to rate, and replies to be told.
 
 use crate::random::Random;
 use std::array;
@@ -64,4 +64,14 @@ pub fn rated_words(random: &mut Random) -> usize {
         1 => MOST_WORDS,
         _ => random.below(MOST_WORDS),
     }
+}
+
+/// The number and the place of a reply: any, and mostly one that is in use, at a place that is met.
+pub fn reply(random: &mut Random) -> (u8, usize) {
+    let number = match random.below(4) {
+        0 => random.below(256),
+        _ => random.below(17),
+    };
+    let place = random.number() >> random.below(64);
+    (number as u8, place as usize)
 }

@@ -37,7 +37,7 @@ const fn call(name: &'static str, share: usize, case: fn(&mut Random, Profile) -
     Call { name, share, case }
 }
 
-const CALLS: [Call; 12] = [
+const CALLS: [Call; 13] = [
     call("build_table", 6, cases::build),
     call("shipped_table", 2, cases::shipped),
     call("index_of_word", 15, cases::index),
@@ -50,6 +50,7 @@ const CALLS: [Call; 12] = [
     call("published_profile", 1, cases::published),
     call("rate_of_words", 4, cases::rate),
     call("list_code", 2, cases::list),
+    call("reply_text", 2, cases::reply_text),
 ];
 
 #[test]
