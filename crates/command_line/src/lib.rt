@@ -180,11 +180,7 @@ fn row(line: Line) -> Asked {
     Asked {
         right: typed.right,
         reply,
-        profile: Profile {
-            q: published.q,
-            m: published.m,
-            x: published.x,
-        },
+        profile: replies::profile_of(published.q, published.m, published.x),
         next: 3,
     }
 }
@@ -196,11 +192,7 @@ pub fn levels_and_reach(line: Line) -> Asked {
     Asked {
         right: q.right & x.right,
         reply: replies::done(),
-        profile: Profile {
-            q: q.value as usize,
-            m: 0,
-            x: x.value as usize,
-        },
+        profile: replies::profile_of(q.value as usize, 0, x.value as usize),
         next: 3,
     }
 }
@@ -216,11 +208,7 @@ pub fn profile(line: Line) -> Asked {
     Asked {
         right: q.right & m.right & x.right,
         reply: replies::done(),
-        profile: Profile {
-            q: q.value as usize,
-            m: m.value as usize,
-            x: x.value as usize,
-        },
+        profile: replies::profile_of(q.value as usize, m.value as usize, x.value as usize),
         next: 4,
     }
 }

@@ -2,7 +2,7 @@
 // of two replies decides, and the tests of a profile and of the room in a lent output.
 ghost use mathlib.Core.Path.{_≡_};
 ghost use Prim.Native.Nat.{_+_, _^_, _<_};
-ghost use Rattle.replies.specs.Replies.{done, refused, refusedIf, movedBy, lowest, outsideRefusal, levelsRefusal, lengthRefusal, reachRefusal, profileRefusal, roomRefusal};
+ghost use Rattle.replies.specs.Replies.{profileOf, done, refused, refusedIf, movedBy, lowest, outsideRefusal, levelsRefusal, lengthRefusal, reachRefusal, profileRefusal, roomRefusal};
 
 // A profile: q levels, word length m, reach x. Any numbers may be handed in; what is out of range is
 // refused.
@@ -67,6 +67,13 @@ pub const ALL_ZERO: u8 = 14;
 pub const INDEX_ABOVE: u8 = 15;
 
 pub const ALL_TOP: u8 = 16;
+
+// A profile of q levels, word length m and reach x.
+pub fn profile_of(q: usize, m: usize, x: usize) -> Profile
+    ensures { λ r. ⌜ r ≡ profileOf q m x ⌝ }
+{
+    Profile { q, m, x }
+}
 
 // Refused with a number at a place.
 pub fn refused_at(number: u8, place: usize) -> Reply

@@ -40,11 +40,7 @@ pub fn profile_in(line: &[u8]) -> Profile
     let q = number(line, 0);
     let m = number(line, q.next);
     let x = number(line, m.next);
-    Profile {
-        q: q.value,
-        m: m.value,
-        x: x.value,
-    }
+    replies::profile_of(q.value, m.value, x.value)
 }
 
 // Puts q m x with single spaces to the front of `out`. The place behind them.
