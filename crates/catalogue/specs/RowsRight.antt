@@ -10,7 +10,7 @@ use lib.Pow.{pow-pos}
 use borrow.Author.Tests.{ltb-true, leb-true, eqb-true}
 use Rattle.replies.specs.declared.Reply.{Reply}
 use Rattle.replies.specs.declared.Profile.{Profile}
-use Rattle.replies.specs.Replies.{done, isDone, refused, orElse, outsideRefusal, profileRefusal}
+use Rattle.replies.specs.Replies.{done, isDone, refused, orElse, outsideRefusal, profileRefusal, profileOf}
 use Rattle.replies.specs.ReplyLaws.{profile-in-range}
 use Rattle.replies.specs.Ranges.{InRange}
 use Rattle.listing.specs.Every.{every}
@@ -19,19 +19,20 @@ use Rattle.code.specs.Formulas.{countsDownFrom, countByRecursion}
 use Rattle.code.specs.Messages.{wordsKeptOut, messageLength}
 use Rattle.code.specs.MessageLaws.{Largest, length-is-largest}
 use Rattle.code.specs.Theorem1.{recursion-counts}
+use Rattle.profiles.specs.Profiles.{lengthOf}
 use Rattle.messages.specs.HighestBit.{one-largest}
 use Rattle.catalogue.specs.declared.Published.{Published}
 use Rattle.catalogue.specs.Catalogue.{publishedRows, rowAt, publishing}
 
 -- The profile of a row.
-abbrev pub profileOf : Published → Profile
-profileOf r = record { q = r .q; m = r .m; x = r .x }
+abbrev pub ofRow : Published → Profile
+ofRow r = profileOf (r .q) (r .m) (r .x)
 
 -- A row is right if it is answered, its profile is in range, and its s is the message length.
 pub record RowRight (r : Published) : Type 0 where
   pub answered : r .reply ≡ done
-  pub inRange : InRange (profileOf r)
-  pub lengthRight : r .s ≡ messageLength (r .q) (r .x) (r .m)
+  pub inRange : InRange (ofRow r)
+  pub lengthRight : r .s ≡ lengthOf (ofRow r)
 
 -- The test of a row: its reply, its profile, and 2^s against N(m) - 2 by theorem 1's recursion.
 abbrev isLargest : ℕ → ℕ → Bool
@@ -41,7 +42,7 @@ abbrev answers : Reply → Bool
 answers a = isDone a && eqb (a .place) 0
 
 abbrev passes : Published → Bool
-passes r = answers (r .reply) && (isDone (profileRefusal (profileOf r)) && isLargest (countByRecursion (r .q) (r .x) (r .m) - wordsKeptOut) (r .s))
+passes r = answers (r .reply) && (isDone (profileRefusal (ofRow r)) && isLargest (countByRecursion (r .q) (r .x) (r .m) - wordsKeptOut) (r .s))
 
 all-pass : every passes publishedRows ≡ true
 unfolding profileRefusal orElse outsideRefusal countByRecursion countsDownFrom
@@ -65,7 +66,7 @@ row-right : (r : Published) → passes r ≡ true → RowRight r
 row-right r e =
     let first = and-eq-true-iff _ _ .0 e in
     let second = and-eq-true-iff _ _ .0 (first .1) in
-    let range = profile-in-range (profileOf r) refl (eqb-true _ _ (second .0)) in
+    let range = profile-in-range (ofRow r) refl (eqb-true _ _ (second .0)) in
     let two = range .levels .least in
     record {
       answered = answered (r .reply) (first .0);

@@ -1,6 +1,5 @@
 // The library called from Rattle: two messages are written as a stream of cells and read back; then a
 // cell is damaged, and the stream is refused.
-use replies::Profile;
 use replies::Written;
 use script::show;
 
@@ -13,7 +12,7 @@ fn answered(written: Written, lent: &[u8]) {
 }
 
 fn main() {
-    let p = Profile { q: 4, m: 5, x: 1 };
+    let p = replies::profile_of(4, 5, 1);
     let mut table = [0u64; 60];
     tables::build(p, &mut table);
 

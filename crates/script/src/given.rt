@@ -21,11 +21,7 @@ pub fn profile(text: &[u8], at: usize) -> Given {
     let m = crate::count(text, q.next);
     let x = crate::count(text, m.next);
     Given {
-        profile: Profile {
-            q: q.n,
-            m: m.n,
-            x: x.n,
-        },
+        profile: replies::profile_of(q.n, m.n, x.n),
         next: x.next,
     }
 }

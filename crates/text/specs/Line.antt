@@ -4,6 +4,7 @@ use mathlib.Core.List.{List, [], _∷_, _++_}
 use Prim.Native.Nat.{ℕ, _+_, _-_, _*_}
 use lib.Dec.{ltb, leb}
 use Rattle.replies.specs.declared.Profile.{Profile}
+use Rattle.replies.specs.Replies.{profileOf}
 use Rattle.listing.specs.Same.{same}
 use Rattle.text.specs.Text.{byte, bytes, decimal}
 
@@ -39,7 +40,7 @@ behindNumber (c ∷ more) = cond (isDigit c) (behindNumber more) more
 unfoldable pub profileIn : List ℕ → Profile
 profileIn line =
     let second = behindNumber line in
-    record { q = numberIn 0 line; m = numberIn 0 second; x = numberIn 0 (behindNumber second) }
+    profileOf (numberIn 0 line) (numberIn 0 second) (numberIn 0 (behindNumber second))
 
 -- Some bytes are the line of a profile, and its numbers have at most three digits.
 unfoldable pub isLineOf : List ℕ → Profile → Bool
