@@ -5,7 +5,7 @@ ghost use mathlib.Core.Path.{_≡_};
 ghost use Prim.Native.Nat.{ℕ, _+_, _*_, _≤_, _<_};
 ghost use lib.ListN.{length, take, drop};
 ghost use Rattle.replies.specs.declared.Profile.{Profile};
-ghost use Rattle.replies.specs.Ranges.{InRange};
+ghost use Rattle.replies.specs.Ranges.{InRange, mostWords};
 ghost use Rattle.profiles.specs.Profiles.{lengthOf, streamLength};
 ghost use Rattle.bits.specs.Bits.{bytesFor};
 ghost use Rattle.write_stream.specs.Writing.{countRefusal, behindRefusal, carrier, writingStream};
@@ -33,7 +33,7 @@ fn refused_count(s: usize, bytes: &[u8], bits: usize) -> Reply
 
 // Number 8: the first bit after the last message bit, in the same byte, that is 1.
 fn refused_behind(bytes: &[u8], bits: usize) -> Reply
-    requires { ⌜ (bits ≤ 256 * 640) × (bytesFor bits ≤ length (now bytes)) ⌝ }
+    requires { ⌜ (bits ≤ mostWords * 640) × (bytesFor bits ≤ length (now bytes)) ⌝ }
     ensures { λ r. ⌜ r ≡ behindRefusal (now (bytes .entry)) bits ⌝ }
 {
     let end = 8 * ((bits + 7) / 8);
@@ -49,7 +49,7 @@ fn refused_behind(bytes: &[u8], bits: usize) -> Reply
 
 // The cells of a stream of n words.
 fn stream_length(p: Profile, n: usize) -> usize
-    requires { ⌜ InRange p × (n ≤ 256) ⌝ }
+    requires { ⌜ InRange p × (n ≤ mostWords) ⌝ }
     ensures { λ r. ⌜ r ≡ streamLength p n ⌝ }
 {
     if n == 0 {
@@ -84,7 +84,7 @@ fn write_word(
     out: &mut [u8],
     at: usize,
 )
-    requires { ⌜ Ready p (now table) s × (k < 256) × (k * s + s ≤ 8 * length (now bytes)) × (at + p .m ≤ length (now out)) ⌝ }
+    requires { ⌜ Ready p (now table) s × (k < mostWords) × (k * s + s ≤ 8 * length (now bytes)) × (at + p .m ≤ length (now out)) ⌝ }
     ensures { λ _. ⌜ now (out .exit) ≡ take at (now (out .entry)) ++ (carrier p (messageAt s (now (bytes .entry)) k) ++ drop (at + p .m) (now (out .entry))) ⌝ }
 {
     let mut limbs = [0u64; 10];
