@@ -93,7 +93,7 @@ def take_items(spec, lines, given=""):
             spec.items[found[3]] = last = Item(found[3], found[1].split(), found[2], given + text)
         elif found := re.match(rf"{MARKED}([^{APART}]+) :(?: |$)", first):
             spec.items[found[2]] = last = Item(found[2], found[1].split(), "named", given + text)
-        elif last and (first.startswith("unfolding ") or re.match(rf"{re.escape(last.name)}(?![^{APART}])", first) or "_" in last.name):
+        elif last and (first.startswith("unfolding ") or re.match(rf"{re.escape(last.name)}(?![^{APART}])", first) or set(last.name.split("_")) & words(first)):
             last.clauses += text + "\n"
         else:
             refuse(spec.path, first)

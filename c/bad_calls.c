@@ -297,7 +297,7 @@ static void no_line(const uint8_t *line)
     must(got.count == strlen(refused) && memcmp(text, right, sizeof text) == 0, "list_code");
 }
 
-/* A reply of any number is told, where there is room for the longest text; nothing behind the text is touched. */
+/* A reply of any number is told, where there is room for the longest text; nothing after the text is touched. */
 static void replies_told(void)
 {
     static const char unknown[] = "refused 255 at 18446744073709551615: number that has no meaning";

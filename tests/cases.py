@@ -42,6 +42,8 @@ def written(call, given, answer):
 
 def print_chosen(program):
     """The script or the answers, as the command says, if every number that the calls can give is among them and the program has room."""
+    if set(met) != (set(CALLS) if program == "calls_run" else {"list_code"}):
+        sys.exit(f"{program}: the cases are of {', '.join(sorted(met))}")
     for call, numbers in met.items():
         if numbers != NUMBERS[call]:
             sys.exit(f"{call}: the cases give {sorted(numbers)}, and not {sorted(NUMBERS[call])}")

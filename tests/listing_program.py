@@ -13,6 +13,7 @@ from itertools import product
 from random import Random
 
 import second
+from second import Profile, line_of
 
 random = Random(41)
 COMMAND = sys.argv[1:]
@@ -21,24 +22,20 @@ PUT = b"\0\t\n\r +-/0159:;a\x80\xb2\xff"
 BEHIND = [b"\0", b"\n", b" ", b"0", b"1", b"\n\n", b" " * 20, b"0" * 20, b"x" * 70000]
 
 
-def line(q, m, x):
-    return f"{q} {m} {x}\n".encode()
-
-
 def codes():
     """For each q, with one reach, the codes that are listed and the first that is not; for q = 2 and q = 4 with every reach."""
     for q, x in product(range(2, 33), range(1, 9)):
         if q in (2, 4) or x == 1 + q % 8:
-            m = 1
-            while second.count(q, x, m) <= 4096:
-                yield line(q, m, x)
-                m += 1
-            yield line(q, m, x)
+            p = Profile(q, 1, x)
+            while second.count(p) <= 4096:
+                yield line_of(p)
+                p = second.with_length(p, p.m + 1)
+            yield line_of(p)
 
 
 def ranges():
-    for q, m, x in product((0, 1, 2, 32, 33, 100, 999), (0, 1, 128, 129, 999), (0, 1, 8, 9, 10, 999)):
-        yield line(q, m, x)
+    for numbers in product((0, 1, 2, 32, 33, 100, 999), (0, 1, 128, 129, 999), (0, 1, 8, 9, 10, 999)):
+        yield line_of(Profile(*numbers))
 
 
 def damaged():

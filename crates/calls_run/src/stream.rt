@@ -1,4 +1,4 @@
-// The calls on streams, with all that was lent shown behind the answer.
+// The calls on streams, with all that was lent shown after the answer.
 use replies::Written;
 use script::given;
 use script::lent;

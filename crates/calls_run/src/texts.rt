@@ -1,4 +1,4 @@
-// The text of a reply, with all that was lent shown behind the answer.
+// The text of a reply, with all that was lent shown after the answer.
 use script::lent;
 use script::show;
 

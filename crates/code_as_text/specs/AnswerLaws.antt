@@ -10,10 +10,9 @@ use lib.ListN.{length}
 use borrow.Author.Tests.{ltb-false, eq-eqb, ne-eqb}
 use Rattle.replies.specs.declared.Reply.{Reply}
 use Rattle.replies.specs.declared.Profile.{Profile}
-use Rattle.replies.specs.declared.Written.{Written}
 use Rattle.replies.specs.Replies.{done, profileRefusal, roomRefusal, Comes}
 use Rattle.replies.specs.ReplyLaws.{has-room, room-enough}
-use Rattle.replies.specs.WritingLaws.{writing-refused, writing-done, count-inside}
+use Rattle.replies.specs.WritingLaws.{writing-refused, writing-done}
 use Rattle.profiles.specs.Profiles.{wordCount}
 use Rattle.text.specs.Text.{bytes, decimal}
 use Rattle.text.specs.Line.{profileIn, isLineOf}
@@ -81,8 +80,3 @@ module _ (line lent : List ℕ) {reply : Reply} (tested : reply ≡ roomRefusal 
     listing-done put =
         let accepted : reply ≡ done = tested ∙ room-enough mostBytes (length lent) room-for-all in
         rw accepted (writing-done _ _ _ _ lent tested none (rw zero-add at (put .behind)) (rw zero-add at (put .left)))
-
--- What listing counts stands in the lent text.
-pub text-inside : (line lent : List ℕ) {answer : Written} {after : List ℕ} → Comes (listing line lent) answer after → answer .count ≤ length after
-unfolding listing
-text-inside line lent = count-inside (roomRefusal mostBytes (length lent)) (printed line) lent

@@ -24,7 +24,7 @@ pub const DECIDING: usize = 13;
 pub const MOST_BYTES: usize = 262144;
 
 // The most words that are listed, as ten limbs.
-const MOST_WORDS: [u64; 10] = [4096, 0, 0, 0, 0, 0, 0, 0, 0, 0];
+const MOST_LISTED: [u64; 10] = [4096, 0, 0, 0, 0, 0, 0, 0, 0, 0];
 
 // An index that is one limb.
 fn index_of(i: usize) -> Index
@@ -130,7 +130,7 @@ fn too_many(p: Profile, table: &[u64]) -> bool
     requires { ⌜ Belongs p (p .m) (now table) × (p .m ≤ 128) ⌝ }
     ensures { λ r. ⌜ r ≡ ltb 4096 (wordCount p) ⌝ }
 {
-    match limbs::compare(&MOST_WORDS, 10, table, 10 * p.m) {
+    match limbs::compare(&MOST_LISTED, 10, table, 10 * p.m) {
         Order::Less => true,
         Order::Equal => false,
         Order::Greater => false,

@@ -26,7 +26,7 @@ fn case(out: &mut [u8]) {
 }
 
 fn main() {
-    let mut out = [0u8; 262144];
+    let mut out = [0u8; code_as_text::MOST_BYTES];
     for _ in 0..script::cases() {
         case(&mut out);
     }

@@ -111,7 +111,7 @@ abbrev pub nowhere : Spot
 nowhere = record { in_bridge = false; word = 0; cell = 0; first = 0; last = 0 }
 
 -- Where a place of a stream lies: behind so many words with their bridges, at the cell that is left over, one of the word if it is below m.
--- A profile out of range has no stream, and no stream has so many cells as the pattern finder takes at most.
+-- A profile out of range has no stream, and no stream has as many cells as the pattern finder takes.
 unfoldable pub spotOf : Profile → ℕ → Spot
 spotOf p place =
     let part = p .m + p .x in

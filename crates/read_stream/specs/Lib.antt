@@ -10,3 +10,4 @@ pub mod TestLaws
 pub mod CarrierLaws
 pub mod OutputLaws
 pub mod ReadingLaws
+pub mod NumberLaws

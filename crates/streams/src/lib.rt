@@ -17,7 +17,7 @@ use replies::Profile;
 use replies::Reply;
 
 // No stream has more cells: no word has more than 128, no bridge more than 8.
-const MOST_CELLS: usize = replies::MOST_WORDS * 136;
+const LONGEST: usize = replies::MOST_WORDS * 136;
 
 // How many words a stream of so many cells has.
 pub fn words_in(p: Profile, cells: usize) -> usize
@@ -33,7 +33,7 @@ fn unfit(p: Profile, cells: usize) -> bool
     requires { ⌜ InRange p ⌝ }
     ensures { λ r. ⌜ r ≡ unfit p cells ⌝ }
 {
-    if MOST_CELLS < cells {
+    if LONGEST < cells {
         return true;
     }
     if cells == 0 {
