@@ -14,7 +14,7 @@
 #define LIMB_ROOM REMI_TABLE_LIMBS(5)
 
 /* At q = 4, x = 1 there are N(5) = 889 words of 5 cells, and s is 9. */
-static const remi_profile GOOD = {4, 5, 1};
+static const remi_profile GOOD = {.q = 4, .m = 5, .x = 1};
 #define GOOD_COUNT 889
 #define GOOD_BITS 9
 static const uint8_t WORD[] = {0, 1, 2, 3, 3};
@@ -151,13 +151,13 @@ static void bad_profiles(lending l)
     static const size_t m_out[] = {0, 129, SIZE_MAX};
     static const size_t x_out[] = {0, 9, SIZE_MAX};
     for (size_t i = 0; i < 4; i++) {
-        lend_with_profile(l, (remi_profile){q_out[i], 5, 1}, REMI_LEVELS);
-        lend_with_profile(l, (remi_profile){q_out[i], m_out[i % 3], x_out[i % 3]}, REMI_LEVELS);
+        lend_with_profile(l, (remi_profile){.q = q_out[i], .m = 5, .x = 1}, REMI_LEVELS);
+        lend_with_profile(l, (remi_profile){.q = q_out[i], .m = m_out[i % 3], .x = x_out[i % 3]}, REMI_LEVELS);
     }
     for (size_t i = 0; i < 3; i++) {
-        lend_with_profile(l, (remi_profile){4, m_out[i], 1}, REMI_LENGTH);
-        lend_with_profile(l, (remi_profile){4, m_out[i], x_out[i]}, REMI_LENGTH);
-        lend_with_profile(l, (remi_profile){4, 5, x_out[i]}, REMI_REACH);
+        lend_with_profile(l, (remi_profile){.q = 4, .m = m_out[i], .x = 1}, REMI_LENGTH);
+        lend_with_profile(l, (remi_profile){.q = 4, .m = m_out[i], .x = x_out[i]}, REMI_LENGTH);
+        lend_with_profile(l, (remi_profile){.q = 4, .m = 5, .x = x_out[i]}, REMI_REACH);
     }
 }
 
@@ -165,7 +165,7 @@ static void bad_profiles(lending l)
  * and no cells are in order. */
 static void nothing_lent(lending l)
 {
-    static const remi_profile silent[] = {{2, 1, 1}, {3, 1, 8}};
+    static const remi_profile silent[] = {{.q = 2, .m = 1, .x = 1}, {.q = 3, .m = 1, .x = 8}};
     situation = l.name;
     wrote_nothing("build_table", remi_build_table(GOOD, l.out_limbs, 0), REMI_OUTPUT_SHORT);
     wrote_nothing("shipped_table", remi_shipped_table(5, l.out_limbs, 0), REMI_OUTPUT_SHORT);
@@ -180,7 +180,8 @@ static void nothing_lent(lending l)
     replied("find_pattern", remi_find_pattern(4, 1, l.cells, 0), REMI_DONE, 0);
     rated_nothing("rate_of_words", remi_rate_of_words(GOOD, l.table, 0, 0), REMI_TABLE_SHORT);
     wrote_nothing("list_code", remi_list_code(l.cells, 0, l.out, 0), REMI_OUTPUT_SHORT);
-    wrote_nothing("reply_text", remi_reply_text((remi_reply){REMI_PATTERN, 345}, l.out, 0), REMI_OUTPUT_SHORT);
+    wrote_nothing("reply_text", remi_reply_text((remi_reply){.number = REMI_PATTERN, .place = 345}, l.out, 0),
+                  REMI_OUTPUT_SHORT);
     for (size_t i = 0; i < 2; i++) {
         remi_profile p = silent[i];
         wrote_nothing("write_stream", remi_write_stream(p, l.table, 0, l.cells, 0, 0, l.out, 0),
@@ -261,7 +262,7 @@ static void bad_numbers(void)
 static void bad_cells(void)
 {
     static const uint8_t above[] = {0, 0, 4, 0, 0}, pattern[] = {1, 3, 0, 3, 1};
-    const remi_profile reach_2 = {4, 5, 2};
+    const remi_profile reach_2 = {.q = 4, .m = 5, .x = 2};
     uint8_t *run = calloc(REMI_MOST_FOUND_CELLS + 1, 1);
     must(run != NULL, "calloc");
     situation = "all lent";
@@ -301,7 +302,7 @@ static void no_line(const uint8_t *line)
 static void replies_told(void)
 {
     static const char unknown[] = "refused 255 at 18446744073709551615: number that has no meaning";
-    const remi_reply largest = {255, SIZE_MAX};
+    const remi_reply largest = {.number = 255, .place = SIZE_MAX};
     uint8_t text[REMI_REPLY_BYTES], right[REMI_REPLY_BYTES];
     memset(text, MARK, sizeof text);
     memset(right, MARK, sizeof right);

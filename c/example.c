@@ -80,7 +80,7 @@ static void read_damaged(remi_profile p, const uint64_t *table, stream damaged)
 static void lend_other_reach(remi_profile p)
 {
     uint64_t other[TABLE_ROOM];
-    remi_profile reach_2 = {p.q, p.m, 2};
+    remi_profile reach_2 = {.q = p.q, .m = p.m, .x = 2};
     expect("table of reach 2", remi_build_table(reach_2, other, TABLE_ROOM).reply, REMI_DONE, 0);
     expect("lent for reach 1", remi_rate_of_words(p, other, TABLE_ROOM, 1).reply, REMI_TABLE_WRONG, 4);
 }
@@ -89,7 +89,7 @@ int main(void)
 {
     remi_published row = remi_published_profile(0);
     expect("row 0", row.reply, REMI_DONE, 0);
-    remi_profile p = {row.q, row.m, row.x};
+    remi_profile p = {.q = row.q, .m = row.m, .x = row.x};
     printf("q %zu, m %zu, x %zu: %zu bits a word\n", p.q, p.m, p.x, row.s);
 
     uint64_t table[TABLE_ROOM];

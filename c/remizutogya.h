@@ -206,7 +206,7 @@ remi_written remi_list_code(const uint8_t *line, size_t n_line, uint8_t *out, si
 
 /* Writes what a reply says in words, as the program remi prints it: `done`; or, as in `refused 11 at 345: forbidden
  * pattern (top at 345)`, the number, the place, what the number means, and what stands at the place where the
- * number has one. Any reply may be handed in; `number that has no meaning` is said of a number above 16.
+ * number has one. Any reply may be handed in; of a number that is not in use `number that has no meaning` is said.
  * Out: REMI_REPLY_BYTES bytes or more, whatever the reply; count: bytes of text written, with no zero byte
  * after them.
  * Numbers: 9. */

@@ -20,7 +20,13 @@
 #define CELL_ROOM REMI_STREAM_CELLS(REMI_MOST_LENGTH, REMI_MOST_REACH, REMI_MOST_WORDS)
 #define BYTE_ROOM (REMI_MOST_WORDS * REMI_LIMBS * 8)
 
-static const remi_profile profiles[] = {{2, 128, 1}, {4, 97, 1}, {4, 128, 8}, {32, 117, 1}, {32, 128, 8}};
+static const remi_profile profiles[] = {
+    {.q = 2, .m = 128, .x = 1},
+    {.q = 4, .m = 97, .x = 1},
+    {.q = 4, .m = 128, .x = 8},
+    {.q = 32, .m = 117, .x = 1},
+    {.q = 32, .m = 128, .x = 8},
+};
 
 /* What the calls are handed. */
 static remi_profile p;
@@ -42,7 +48,10 @@ static void find_pattern(void) { remi_find_pattern(p.q, p.x, run, REMI_MOST_FOUN
 static void published_profile(void) { remi_published_profile(REMI_PUBLISHED_ROWS - 1); }
 static void rate_of_words(void) { remi_rate_of_words(p, table, TABLE_ROOM, REMI_MOST_WORDS); }
 static void list_code(void) { remi_list_code((const uint8_t *)"4 6 1\n", 6, text, REMI_LISTING_BYTES); }
-static void reply_text(void) { remi_reply_text((remi_reply){REMI_PATTERN, SIZE_MAX}, text, REMI_REPLY_BYTES); }
+static void reply_text(void)
+{
+    remi_reply_text((remi_reply){.number = REMI_PATTERN, .place = SIZE_MAX}, text, REMI_REPLY_BYTES);
+}
 
 static const struct {
     const char *name;

@@ -61,10 +61,10 @@ fn assert_written(p: Profile, s: usize, messages: &[u64], stream: &str) {
 #[test]
 fn counts() {
     for (m, x, count) in [(6, 1, 3409), (6, 2, 3031), (9, 1, 191_518)] {
-        let rows = table(Profile { q: 4, m, x });
+        let rows = table(Profile::new(4, m, x));
         assert_eq!(rows[LIMBS * m..], number(count));
     }
-    assert_eq!(table(Profile { q: 2, m: 3, x: 1 })[LIMBS * 3..], number(7));
+    assert_eq!(table(Profile::new(2, 3, 1))[LIMBS * 3..], number(7));
 }
 
 #[test]
@@ -76,11 +76,7 @@ fn indices() {
         (1, "13001", 416),
     ];
     for (x, word, index) in examples {
-        let p = Profile {
-            q: 4,
-            m: word.len(),
-            x,
-        };
+        let p = Profile::new(4, word.len(), x);
         assert_eq!(
             peer::index(p, &table(p), &cells(word)),
             (done(0), number(index))
@@ -96,28 +92,24 @@ fn indices() {
 
 #[test]
 fn streams() {
-    assert_written(Profile { q: 4, m: 5, x: 1 }, 9, &[107, 415], "01233013001");
-    assert_written(Profile { q: 2, m: 3, x: 1 }, 2, &[0, 3], "0011100");
-    assert_written(Profile { q: 4, m: 1, x: 1 }, 1, &[1, 0], "201");
+    assert_written(Profile::new(4, 5, 1), 9, &[107, 415], "01233013001");
+    assert_written(Profile::new(2, 3, 1), 2, &[0, 3], "0011100");
+    assert_written(Profile::new(4, 1, 1), 1, &[1, 0], "201");
 }
 
 #[test]
 fn refusals() {
     for (word, x, refusal) in [("323", 1, 11), ("3223", 1, 0), ("3223", 2, 11)] {
-        let p = Profile {
-            q: 4,
-            m: word.len(),
-            x,
-        };
+        let p = Profile::new(4, word.len(), x);
         assert_eq!(
             peer::index(p, &table(p), &cells(word)).0,
             refused(refusal, 0)
         );
         assert_eq!(peer::find(p.q, x, &cells(word)), refused(refusal, 0));
     }
-    let p = Profile { q: 3, m: 1, x: 1 };
+    let p = Profile::new(3, 1, 1);
     assert_eq!(peer::read(p, &table(p), &[], &mut []), refused(4, 0));
-    let (reach_one, reach_two) = (Profile { q: 4, m: 4, x: 1 }, Profile { q: 4, m: 4, x: 2 });
+    let (reach_one, reach_two) = (Profile::new(4, 4, 1), Profile::new(4, 4, 2));
     assert_eq!(peer::rate(reach_two, &table(reach_one), 1).0, refused(6, 4));
 }
 
@@ -125,7 +117,7 @@ fn refusals() {
 fn published_profiles_agree_with_the_recursion() {
     for row in 0..40 {
         let (answer, [q, x, m, s]) = peer::published(row);
-        let p = Profile { q, m, x };
+        let p = Profile::new(q, m, x);
         assert_eq!(answer, done(0));
         assert_eq!(peer::rate(p, &table(p), 1), (done(0), s, m + x));
     }

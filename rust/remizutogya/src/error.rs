@@ -58,7 +58,7 @@ impl Error {
     /// applies to every such word, so no call gives it.
     pub const ALL_TOP: u8 = 16;
 
-    /// The number, 1 to 16.
+    /// The number, which is not 0.
     pub const fn number(self) -> u8 {
         self.number
     }

@@ -5,7 +5,7 @@ use remizutogya::*;
 use std::fmt::Debug;
 
 /// At q = 4, x = 1 there are N(5) = 889 words of 5 cells, and s is 9.
-const GOOD: Profile = Profile { q: 4, m: 5, x: 1 };
+const GOOD: Profile = Profile::new(4, 5, 1);
 const GOOD_COUNT: u64 = 889;
 const GOOD_BITS: usize = 9;
 const WORD: [u8; 5] = [0, 1, 2, 3, 3];
@@ -111,7 +111,7 @@ fn nothing_lent() {
     must_refuse(Error::TABLE_SHORT, 0, without_table);
     must_refuse(Error::TABLE_SHORT, 0, [index_of_word(GOOD, &[], &[])]);
     must_refuse(Error::TABLE_SHORT, 0, [rate_of_words(GOOD, &[], 0)]);
-    let silent = Profile { q: 2, m: 1, x: 1 };
+    let silent = Profile::new(2, 1, 1);
     must_refuse(Error::NO_MESSAGE, 0, [rate_of_words(silent, &[], 0)]);
     assert_eq!(join_streams(GOOD, &[], &[], &mut []), Ok(0));
     assert_eq!(turn_stream(GOOD, &[], &mut []), Ok(0));
