@@ -1,0 +1,2 @@
+-- What the proofs by hand share.
+pub mod Lent
