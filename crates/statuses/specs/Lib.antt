@@ -1,0 +1,2 @@
+-- Statuses holds the definitions.
+pub mod Statuses
