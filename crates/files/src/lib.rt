@@ -1,134 +1,86 @@
-// Files as a person names them: one is read whole into lent bytes, one is written beside its name and
-// then renamed. What cannot be done is said in one line on standard error, with the system's reason,
-// and nothing is left behind.
-ghost use Prim.Native.Nat.{_+_, _≤_};
-ghost use lib.ListN.{length};
+// Files as a person names them: one is read whole into lent bytes, one is written whole or not at all. The
+// name - is standard input or standard output. What cannot be done is said in one line on standard error.
 ghost use Rattle.io.specs.Counts.{Counts};
+use file_facts::Facts;
 
+mod calls;
+mod paths;
+mod said;
+pub mod saving;
 pub mod table;
 
-// The most bytes of a name.
-const MOST_NAME: usize = 4096;
-
-// What came of reading a file: whether it was read, and how many of the lent bytes it fills.
+// What came of reading a file: whether it was read, how many of the lent bytes it fills, and which file it is.
 pub struct Loaded {
     pub done: bool,
     pub count: usize,
+    pub facts: Facts,
 }
 
-// Says what cannot be done with a file, and why.
-fn cannot(what: &[u8], path: &[u8]) {
-    io::write_all(2, what);
-    os::fail(path);
+// The files that a subcommand has read.
+pub struct Inputs {
+    pub first: Facts,
+    pub second: Facts,
+    pub table: Facts,
 }
 
-// No bytes are left to be read.
-fn ended(fd: i32) -> bool {
-    let mut more = [0u8; 1];
-    libc::read(fd, &mut more) == 0
+// The name of standard input and standard output.
+pub fn is_standard(name: &[u8]) -> bool {
+    text::same(name, b"-")
 }
 
-// Reads a file to the front of `buf`. One that is longer fills `buf`.
-pub fn load(path: &[u8], buf: &mut [u8]) -> Loaded
+// Reads what is left of an open file to the front of `buf`. One that is longer fills `buf`.
+fn load_open(fd: i32, name: &[u8], buf: &mut [u8]) -> Loaded
     ensures { λ r. ⌜ Counts (r .count) (now (buf .exit)) ⌝ }
 {
-    let fd = os::open_read(path);
-    if fd < 0 {
-        cannot(b"cannot read ", path);
+    let facts = file_facts::of_descriptor(fd);
+    if !facts.found {
+        said::cannot_read(name);
         return Loaded {
             done: false,
             count: 0,
+            facts,
         };
     }
-    let count = io::read_full(fd, buf);
-    let done = count == buf.len() || ended(fd);
-    if !done {
-        cannot(b"cannot read ", path);
+    let filled = calls::fill(fd, buf);
+    if !filled.done {
+        said::cannot_read(name);
     }
-    libc::close(fd);
-    Loaded { done, count }
+    Loaded {
+        done: filled.done,
+        count: filled.count,
+        facts,
+    }
 }
 
-// Makes a new file of some content. Where that fails the file is gone again.
-fn make(path: &[u8], content: &[u8]) -> bool {
-    let fd = os::create(path);
+// Reads a file to the front of `buf`. One that is longer fills `buf`.
+pub fn load(name: &[u8], buf: &mut [u8]) -> Loaded
+    ensures { λ r. ⌜ Counts (r .count) (now (buf .exit)) ⌝ }
+{
+    if is_standard(name) {
+        return load_open(libc::STDIN_FILENO, name, buf);
+    }
+    let fd = calls::open(name);
     if fd < 0 {
-        cannot(b"cannot write ", path);
-        return false;
+        said::cannot_read(name);
+        return Loaded {
+            done: false,
+            count: 0,
+            facts: file_facts::unknown(),
+        };
     }
-    let done = io::write_all(fd, content) && libc::fsync(fd) == 0;
-    if !done {
-        cannot(b"cannot write ", path);
-    }
+    let loaded = load_open(fd, name, buf);
     libc::close(fd);
+    loaded
+}
+
+// Writes all of some bytes to an open file that a person reads, and says where that cannot be done. Nothing
+// can be said of standard error itself.
+pub fn tell(fd: i32, bytes: &[u8]) -> bool {
+    let done = calls::put(fd, bytes);
     if !done {
-        os::unlink(path);
+        if fd == libc::STDOUT_FILENO {
+            said::cannot_write(b"-");
+        }
     }
     done
-}
-
-// Takes a name that no file has yet.
-fn take(path: &[u8]) -> bool {
-    let fd = os::create(path);
-    if fd < 0 {
-        if os::errno() == libc::EEXIST {
-            io::write_all(2, path);
-            io::write_all(2, b" exists and is left as it is; -f writes over it\n");
-            return false;
-        }
-        cannot(b"cannot write ", path);
-        return false;
-    }
-    libc::close(fd);
-    true
-}
-
-// Gives a new file its name. A file that has the name already is left as it is, unless it is to be
-// written over.
-fn name(part: &[u8], path: &[u8], over: bool) -> bool {
-    if !over {
-        if !take(path) {
-            return false;
-        }
-    }
-    if os::rename(part, path) == 0 {
-        return true;
-    }
-    cannot(b"cannot write ", path);
-    if !over {
-        os::unlink(path);
-    }
-    false
-}
-
-// Puts the name that a file has while it is being written to the front of `out`. How many bytes it has.
-fn beside(path: &[u8], out: &mut [u8]) -> usize
-    requires { ⌜ length (now path) + 5 ≤ length (now out) ⌝ }
-    ensures { λ r. ⌜ Counts r (now (out .exit)) ⌝ }
-{
-    let at = text::put(out, 0, path);
-    text::put(out, at, b".part")
-}
-
-// Writes a file whose name is free or to be written over: first beside it, then renamed.
-fn write(part: &[u8], path: &[u8], content: &[u8], over: bool) -> bool {
-    if !make(part, content) {
-        return false;
-    }
-    if name(part, path, over) {
-        return true;
-    }
-    os::unlink(part);
-    false
-}
-
-// Writes a file: whole, or not at all. A file that exists is left as it is, unless it is to be written
-// over. No file can be made of a longer name than any, which is said.
-pub fn save(path: &[u8], content: &[u8], over: bool) -> bool {
-    if MOST_NAME < path.len() {
-        return make(path, content);
-    }
-    let mut part = [0u8; 4101];
-    let n = beside(path, &mut part);
-    write(&part[..n], path, content, over)
 }

@@ -15,7 +15,7 @@ fn wide(byte: u8) -> u64
 }
 
 // The limb in the eight bytes from a place on; what is not there counts as 0.
-fn limb_at(bytes: &[u8], at: usize) -> u64 {
+pub fn limb_at(bytes: &[u8], at: usize) -> u64 {
     let mut limb = 0;
     let mut k = 8;
     while 0 < k {
@@ -47,9 +47,11 @@ pub fn load(path: &[u8], limbs: &mut [u64]) -> Loaded {
     let mut bytes = [0u8; BYTES];
     let loaded = crate::load(path, &mut bytes);
     take(&bytes, limbs);
+    let facts = loaded.facts;
     Loaded {
         done: loaded.done,
         count: loaded.count / 8,
+        facts,
     }
 }
 

@@ -1,0 +1,3 @@
+-- Saving holds the definitions, CountLaws a law.
+pub mod Saving
+pub mod CountLaws
