@@ -1,16 +1,16 @@
 -- `commands::telling::levels` ends after the last level.
-use Prim.Native.Nat.{_-_, _≤_}
-use mathlib.Core.Path.{_≡_}
-use lib.ListN.{length}
 use borrow.Author.Needs.{needs}
+use mathlib.Core.Path.{_≡_}
+use Prim.Native.Nat.{_-_, _≤_}
+use lib.ListN.{length}
 use Rattle.commands.proofs.telling.levels.Statement.{statement}
 use Rattle.commands.proofs.telling.levels.Tie as tie
 
 abbrev Inv-loop : tie.InvT-loop
-Inv-loop cells i₀ t3 i-end i = (i-end ≡ length cells) × (i ≤ i-end)
+Inv-loop page₀ cells more₀ i₀ t6 i-end page more i = (i-end ≡ length cells) × (i ≤ i-end)
 
 abbrev μ-loop : tie.MeasureT-loop
-μ-loop cells i₀ t3 i-end i = i-end - i
+μ-loop page₀ cells more₀ i₀ t6 i-end page more i = i-end - i
 
 loop-holds : tie.Need-loop-holds Inv-loop μ-loop
 loop-holds c = search needs
