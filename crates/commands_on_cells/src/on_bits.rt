@@ -3,49 +3,68 @@ use crate::BYTES;
 use crate::CELLS;
 use command_line::Asked;
 use command_line::Line;
+use commands::Job;
+use commands::json;
 use commands::lending;
+use commands::refusals;
 use commands::telling;
+use commands::telling::PAGE;
+use commands::telling::Told;
+use commands::telling::counted;
+use commands::telling::text;
+use files::Inputs;
 use files::table::LIMBS;
 use parts::first_cells;
 use parts::first_limbs;
 use replies::DONE;
 use replies::Profile;
+use replies::Reply;
 
-// Writes bits, if what was typed as their number is one.
-pub fn write(line: Line) -> bool {
-    let asked = command_line::profile(line);
-    let typed = command_line::number_at(line.bits);
-    if ((0 < line.bits) & !typed.right) || !command_line::fits(line, asked, 1, 2, true, true) {
-        return false;
-    }
-    if asked.reply.number != DONE {
-        telling::refusal(asked.reply);
-        return true;
-    }
-    load(line, asked, typed.value as usize);
-    true
-}
-
-// Loads the bytes and the table.
-fn load(line: Line, asked: Asked, typed: usize) {
-    let mut name = io::buffer();
-    let n = command_line::word(line, asked.next as usize, &mut name);
+// Loads the bytes and the table, and writes the bits.
+pub fn write(page: &mut [u8; PAGE], told: Told, line: Line, asked: Asked) -> u8 {
+    let mut buf = io::buffer();
+    let n = command_line::word(asked.next as usize, &mut buf);
+    let name = &buf[..n];
     let mut bytes = [0u8; BYTES + 1];
-    let message = files::load(&name[..n], &mut bytes);
+    let message = files::load(name, &mut bytes);
     if !message.done {
-        return;
+        return refusals::trouble(page, told, line, name);
     }
     let mut limbs = [0u64; LIMBS];
-    let table = lending::table(line, asked.profile, &mut limbs);
-    if table.done {
-        let table = first_limbs(&limbs, table.count);
-        let bytes = first_cells(&bytes, message.count);
-        let mut bits = typed;
-        if line.bits == 0 {
-            bits = bits_in(asked.profile, table, bytes.len());
-        }
-        write_bits(line, asked, table, &name[..n], bytes, bits);
+    let lent = lending::table(line, asked.profile, &mut limbs);
+    if !lent.done {
+        return refusals::table(page, told, line);
     }
+    let first = message.facts;
+    let table = lent.facts;
+    let job = Job {
+        line,
+        asked,
+        inputs: Inputs {
+            first,
+            second: file_facts::unknown(),
+            table,
+        },
+    };
+    write_bits(
+        page,
+        told,
+        job,
+        first_limbs(&limbs, lent.count),
+        name,
+        first_cells(&bytes, message.count),
+    )
+}
+
+// How many bits are written: as many as were asked for, or as the file holds.
+fn bits_of(job: Job, table: &[u64], bytes: usize) -> usize {
+    let line = job.line;
+    if 0 < line.bits {
+        let typed = command_line::number_at(line.bits);
+        return typed.value as usize;
+    }
+    let asked = job.asked;
+    bits_in(asked.profile, table, bytes)
 }
 
 // How many bits a file of so many bytes holds: the most that are whole messages, if less than a byte is
@@ -67,24 +86,82 @@ fn bits_in(p: Profile, table: &[u64], bytes: usize) -> usize {
     bits - over
 }
 
-// Writes so many bits of some bytes, and tells what came of it.
-fn write_bits(line: Line, asked: Asked, table: &[u64], name: &[u8], bytes: &[u8], bits: usize) {
+// Writes bits, and tells what came of it.
+fn write_bits(
+    page: &mut [u8; PAGE],
+    told: Told,
+    job: Job,
+    table: &[u64],
+    name: &[u8],
+    bytes: &[u8],
+) -> u8 {
+    let line = job.line;
+    let asked = job.asked;
+    let bits = bits_of(job, table, bytes.len());
     let mut cells = [0u8; CELLS];
     let written = write_stream::write(asked.profile, table, bytes, bits, &mut cells);
-    if written.reply.number != DONE {
-        telling::refusal(written.reply);
-        telling::length(written.reply, name, bytes.len(), BYTES, b" bytes\n");
-        return;
+    let reply = written.reply;
+    if reply.number != DONE {
+        return refused(page, told, line, reply, name, bytes.len());
     }
     let to = asked.next as usize + 1;
-    if lending::output(line, to, &cells, written.count) {
-        telling::numbers(
-            b"done: ",
-            bits,
-            b" bits written as ",
-            written.count,
-            b" cells",
-        );
-        telling::end(line, to);
+    if !lending::output(job, to, &cells, written.count) {
+        return refusals::output(page, told, line, to);
     }
+    if line.json {
+        let object = object_of_write(page, told, reply, bits, written.count);
+        return crate::end_object(page, object, line, name, to);
+    }
+    let mut more = counted(page, told, b"done: ", bits);
+    more = counted(page, more, b" bits written as ", written.count);
+    more = text(page, more, b" cells");
+    telling::done(page, more, line, to)
+}
+
+// The beginning of the object of bits that are written.
+fn object_of_write(
+    page: &mut [u8; PAGE],
+    told: Told,
+    reply: Reply,
+    bits: usize,
+    cells: usize,
+) -> Told {
+    let mut more = json::reply(page, told, reply);
+    more = json::number(page, more, b"bits", bits);
+    json::number(page, more, b"cells", cells)
+}
+
+// Tells that bits are refused.
+fn refused(
+    page: &mut [u8; PAGE],
+    told: Told,
+    line: Line,
+    reply: Reply,
+    name: &[u8],
+    bytes: usize,
+) -> u8 {
+    let more = if line.json {
+        object_of_refusal(page, told, line, reply, name, bytes)
+    } else {
+        let more = telling::refusal(page, told, reply);
+        let then = text(page, more, b"\n");
+        refusals::length(page, then, reply, name, bytes, BYTES, b" bytes\n")
+    };
+    telling::finish(page, more, statuses::of_reply(reply))
+}
+
+// The same, as an object.
+fn object_of_refusal(
+    page: &mut [u8; PAGE],
+    told: Told,
+    line: Line,
+    reply: Reply,
+    name: &[u8],
+    bytes: usize,
+) -> Told {
+    let mut more = json::reply(page, told, reply);
+    more = json::length(page, more, b"bytes", bytes, BYTES);
+    more = json::name(page, more, b"input", name);
+    more = json::table(page, more, line);
+    json::end(page, more)
 }

@@ -1,14 +1,14 @@
 -- `commands_on_profiles::tell_row` takes the ten limbs of a row.
-use Prim.Native.Nat.{_-_, _≤_}
 use borrow.Author.Needs.{needs}
+use Prim.Native.Nat.{_-_, _≤_}
 use Rattle.commands_on_profiles.proofs.tell_row.Statement.{statement}
 use Rattle.commands_on_profiles.proofs.tell_row.Tie as tie
 
 abbrev Inv-loop : tie.InvT-loop
-Inv-loop table at limbs₀ k₀ limbs k = k ≤ 10
+Inv-loop page told table at limbs₀ k₀ limbs k = k ≤ 10
 
 abbrev μ-loop : tie.MeasureT-loop
-μ-loop table at limbs₀ k₀ limbs k = 10 - k
+μ-loop page told table at limbs₀ k₀ limbs k = 10 - k
 
 loop-holds : tie.Need-loop-holds Inv-loop μ-loop
 loop-holds c = search needs

@@ -1,4 +1,4 @@
--- `commands_on_profiles::list`: the line of a profile in range fits.
+-- `commands_on_profiles::listing::list`: the line of a profile in range fits.
 use mathlib.Core.Path.{_≡_}
 use mathlib.Core.Bool.{true}
 use native.Mathlib.Omega.{arith}
@@ -11,8 +11,8 @@ use Rattle.text.specs.Text.{bytes}
 use Rattle.text.specs.Line.{threeDigits}
 use Rattle.text.specs.LineLaws.{profile-short, line-short}
 use Rattle.text.specs.PutLaws.{more-fits, put-more, front-length}
-use Rattle.commands_on_profiles.proofs.list.Statement.{statement}
-use Rattle.commands_on_profiles.proofs.list.Tie as tie
+use Rattle.commands_on_profiles.proofs.listing.list.Statement.{statement}
+use Rattle.commands_on_profiles.proofs.listing.list.Tie as tie
 
 -- A profile in range has numbers of at most three digits.
 three-digits : {p : Profile} → InRange p → threeDigits p ≡ true
@@ -32,8 +32,8 @@ three c = three-digits (profile-in-range _ (c .before .before .refused-profile .
 refused-profile-requires : tie.Need-refused-profile-requires
 refused-profile-requires c κs = search needs
 
-refusal-requires : tie.Need-refusal-requires
-refusal-requires c κs = search needs
+plain-requires : tie.Need-plain-requires
+plain-requires c κs = search needs
 
 returns : tie.Need-returns
 returns c = search needs
@@ -56,8 +56,8 @@ put-requires c κs =
     let first = put .before .before in
     more-fits (bytes "\n") (put .put-profile .ensures) (omega (arith, line-short (profile first) (three first)))
 
-array-share-prefix-line : tie.Need-array-share-prefix-line
-array-share-prefix-line c = search needs
+array-share-prefix-typed : tie.Need-array-share-prefix-typed
+array-share-prefix-typed c = search needs
 
 slice-aggregate-list : tie.Need-slice-aggregate-list
 slice-aggregate-list c =
@@ -76,8 +76,8 @@ slice-aggregate-first-cells c = search needs
 first-cells-requires : tie.Need-first-cells-requires
 first-cells-requires c κs = search needs
 
-text-requires : tie.Need-text-requires
-text-requires c κs = search needs
+tell-requires : tie.Need-tell-requires
+tell-requires c κs = search needs
 
 returns-2 : tie.Need-returns-2
 returns-2 c = search needs
@@ -87,18 +87,18 @@ list-spec =
     tie.close
     (tie.spec
     refused-profile-requires
-    refusal-requires
+    plain-requires
     returns
     slice-aggregate-put-profile
     put-profile-requires
     slice-aggregate-put
     slice-aggregate-put-2
     put-requires
-    array-share-prefix-line
+    array-share-prefix-typed
     slice-aggregate-list
     slice-aggregate-list-2
     list-requires
     slice-aggregate-first-cells
     first-cells-requires
-    text-requires
+    tell-requires
     returns-2)
