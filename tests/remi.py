@@ -1,144 +1,84 @@
-"""The program remi a second time, over tests/second.py: what it prints, and which files are there afterwards.
+"""The program remi a second time, over tests/second.py: what it prints, its exit status, and which files are there afterwards.
 
-It shares no code with the crates. What a subcommand takes is read out of the help text, which is what `remi help` prints. A directory is a dictionary of what
-a reader of each name gets: the bytes of a file, or an error number, as EISDIR for a directory.
+It shares no code with the crates. tests/remi_line.py reads the command line, and tests/remi_disk.py has the files and the standard streams.
 """
 
+import json
 import os
 import re
-from errno import EEXIST, EISDIR, ENAMETOOLONG, ENOENT
+import subprocess
+from collections import Counter
+from functools import cache
 from pathlib import Path
+from typing import NamedTuple
 
 import second
-from second import Profile
+from remi_disk import Disk, Trouble
+from remi_line import HELP, LINES, STANDARD, Fault, escaped, parsed
 
-HELP = (Path(__file__).parent.parent / "crates/remi/stdout").read_text()
-SUBCOMMANDS = {name: words.split() for name, words in re.findall(r"^  remi (\w+) +((?:\[?[A-Z]+\]? )*) *[a-z]", HELP, re.M)}
-OPTIONS = {letter: names.split(", ") for letter, names in re.findall(r"^  -([tn]) .*\((.*)\)$", HELP, re.M)}
-NUMBERS = ("Q", "X", "INDEX", "WORDS", "ROW")
-MOST_ARGUMENT, MOST_NAME = 4096, 255
+WORKSPACE = Path(__file__).parent.parent / "rust/Cargo.toml"
+DONE, REFUSED, FAILED = 0, 1, 2
 MOST_CELLS, MOST_BYTES = 65536, 20448
-
-
-class Wrong(Exception):
-    """The command line is not right."""
-
-
-class Stopped(Exception):
-    """A file cannot be read or written."""
+AMONG_CELLS = {10, 11, 13, 14, 15, 16}
+TOO_MANY = "too many"
 
 
 class Refused(Exception):
-    """A call is refused."""
+    """A call is refused: its reply, what is told under it, and what is told of it as JSON."""
+
+    def __init__(self, reply, about="", fields=None):
+        super().__init__(second.in_words(reply))
+        self.number, self.about = reply.number, about
+        self.fields = {"number": reply.number, "place": reply.place, "told": str(self)} | (fields or {})
 
 
-def settle(reply, told=""):
-    """Goes on if a call is done; else its number and place are told, and what else there is to tell."""
-    if reply.number:
-        raise Refused(f"{second.in_words(reply)}\n{told}")
+class Result(NamedTuple):
+    """What a run prints and leaves, and the numbers that it tells."""
+
+    out: bytes
+    err: bytes
+    status: int
+    files: dict
+    numbers: set
 
 
-class Disk:
-    """The files. `closed` is the error that making a file gives, `full` the one that writing a byte gives; 0 for none."""
-
-    def __init__(self, files, closed, full):
-        self.files, self.closed, self.full = dict(files), closed, full
-
-    def load(self, name):
-        found = ENAMETOOLONG if len(os.fsencode(name)) > MOST_NAME else self.files.get(name, ENOENT)
-        if isinstance(found, int):
-            raise Stopped(f"cannot read {name}: {os.strerror(found)}")
-        return found
-
-    def make(self, name):
-        """The error that making a file gives."""
-        folder, slash, last = name.rpartition("/")
-        if len(os.fsencode(last)) > MOST_NAME:
-            return ENAMETOOLONG
-        if slash and folder not in self.files or not last:
-            return ENOENT
-        return EEXIST if name in self.files else self.closed
-
-    def save(self, name, content, over):
-        """The file is made as NAME.part and renamed, so that it is there whole or not at all."""
-        error = self.make(f"{name}.part") or (self.full if content else 0)
-        if error:
-            raise Stopped(f"cannot write {name}.part: {os.strerror(error)}")
-        error = self.make(name)
-        if error == EEXIST and over:
-            error = EISDIR if self.files[name] == EISDIR else 0
-        if error == EEXIST:
-            raise Stopped(f"{name} exists and is left as it is; -f writes over it")
-        if error:
-            raise Stopped(f"cannot write {name}: {os.strerror(error)}")
-        self.files[name] = content
+@cache
+def version():
+    """The line that names the version of the program and of the kit."""
+    own = re.search(r'^\[workspace\.package\]\n(?:.+\n)*?version = "(.*)"$', WORKSPACE.read_text(), re.M)[1]
+    kit = subprocess.run(["rt", "version"], check=True, capture_output=True, text=True).stdout
+    return f"remi {own}, {kit.strip()}\n"
 
 
-def number(word):
-    if not re.fullmatch("[0-9]+", word):
-        raise Wrong
-    return int(word)
+def usage(name):
+    """The use of one subcommand: the help text without its first two lines and the lines of the others."""
+    return "".join(line for line in HELP.splitlines(keepends=True)[2:] if line == LINES[name] or line not in LINES.values())
 
 
-def parsed(arguments):
-    """The subcommand, what it was given by the names in the help text, and the options."""
-    words, options, rest = [], {}, list(arguments)
-    if any(len(os.fsencode(word)) > MOST_ARGUMENT for word in rest):
-        raise Wrong
-    while rest:
-        word = rest.pop(0)
-        if word in ("-t", "-n") and rest:
-            options[word[1]] = rest.pop(0)
-        elif word == "-f":
-            options["f"] = True
-        elif len(word) > 1 and word[0] == "-" or options:
-            raise Wrong
-        else:
-            words.append(word)
-    if not words or words[0] not in SUBCOMMANDS or any(words[0] not in OPTIONS.get(letter, SUBCOMMANDS) for letter in options):
-        raise Wrong
-    name, *words = words
-    if "n" in options:
-        options["n"] = number(options["n"])
-    return name, given(SUBCOMMANDS[name][: 1 if name == "table" and "t" in options else None], words), options
+def shown(name):
+    """The name of a file that is read, as it is printed."""
+    return "standard input" if name == STANDARD else escaped(name)
 
 
-def given(synopsis, words):
-    """The words behind a subcommand, by what they are."""
-    found, row = {}, None
-    for what in synopsis:
-        if what == "PROFILE" and words[:1] == ["row"] and len(words) > 1:
-            row = number(words[1])
-            found[what], words = None, words[2:]
-        elif what == "PROFILE":
-            numbers, words = [number(word) for word in words[:3]], words[3:]
-            if len(numbers) < 3:
-                raise Wrong
-            found[what] = Profile(*numbers)
-        elif words:
-            found[what.strip("[]")] = number(words[0]) if what.strip("[]") in NUMBERS else words[0]
-            words = words[1:]
-        elif what[0] != "[":
-            raise Wrong
-    if words:
-        raise Wrong
-    if row is not None:
-        published = second.published(row)
-        settle(published.reply)
-        found["PROFILE"] = published.profile
-    return found
+def in_json(name):
+    return STANDARD if name == STANDARD else escaped(name)
+
+
+def counted(count, most):
+    """How many there are, as JSON tells it: none where there are more than a call takes."""
+    return count if count <= most else None
 
 
 def about_length(reply, name, count, most, what):
     more = "more than " if count > most else ""
-    return f"  {name}: {more}{min(count, most)} {what}\n" if reply.number == 7 else ""
+    return f"  {shown(name)}: {more}{min(count, most)} {what}\n" if reply.number == 7 else ""
 
 
 def around(name, cells, place):
     """The cells around a place, up to eight on each side."""
     near = range(max(place - 8, 0), min(place + 9, len(cells)))
     levels = " ".join(f"[{cells[i]}]" if i == place else str(cells[i]) for i in near)
-    return f"  cells {near[0]} to {near[-1]} of {name}: {levels}\n"
+    return f"  cells {near[0]} to {near[-1]} of {shown(name)}: {levels}\n"
 
 
 def spot(p, place):
@@ -157,50 +97,152 @@ def about_cells(reply, name, cells, profile=None):
     return around(name, cells, reply.place) + (spot(profile, reply.place) if profile else "")
 
 
-class Run:
-    """One run of the program on files: each subcommand gives what it prints."""
+def spotted(reply, profile=None):
+    """The place of refused cells, as JSON tells it."""
+    if reply.number not in AMONG_CELLS:
+        return {}
+    if profile is None:
+        return {"at": reply.place}
+    word, cell = divmod(reply.place, profile.m + profile.x)
+    return {"at": reply.place, "word": word, "bridge": cell >= profile.m}
 
-    def __init__(self, words, options, disk):
-        self.words, self.options, self.disk = words, options, disk
-        self.profile = words.get("PROFILE")
+
+def listed(line):
+    """A line of a list, as JSON tells it."""
+    index, levels, message = line.split()
+    return {"index": int(index), "levels": list(map(int, levels.split(","))), "message": None if message == "-" else int(message)}
+
+
+class Run:
+    """One run of the program: each subcommand tells what there is to tell, and answers the exit status. `numbers` takes the numbers that are told."""
+
+    def __init__(self, call, disk, numbers):
+        self.call, self.disk, self.numbers, self.untold = call, disk, numbers, False
+        self.words, self.profile = call.words, call.profile
+        self.json, self.told = "--json" in call.options, disk.err if call.output == STANDARD else disk.out
+        self.lent_fields = {"table": in_json(call.options["-t"])} if "-t" in call.options else {}
+
+    def status(self):
+        """Runs it. Where something cannot be told, the call is not done."""
+        status = self.outcome()
+        return FAILED if self.untold else status
+
+    def outcome(self):
+        """Tells the outcome, whatever it is."""
+        try:
+            if self.call.row is not None:
+                published = second.published(self.call.row)
+                if published.reply.number:
+                    raise Refused(published.reply)
+                self.profile = published.profile
+            return getattr(self, self.call.name)()
+        except Refused as refused:
+            self.tell(f"{refused}\n{refused.about}", REFUSED, refused.fields)
+            return REFUSED
+        except Trouble as trouble:
+            return self.report(trouble)
+
+    def tell(self, text, status=DONE, fields=None):
+        """Tells something, as text or as JSON; there are no fields for what is told as text only. What cannot be told is reported,
+        and then nothing more is told."""
+        fields = fields or {}
+        self.numbers |= {fields.get("number", fields.get("told"))} - {None}
+        if self.json and fields:
+            text = json.dumps({"command": self.call.name, "status": status} | fields, separators=(",", ":"), ensure_ascii=False) + "\n"
+        error = 0 if self.untold else self.told.write(text.encode())
+        self.untold |= error != 0
+        if error and self.told is self.disk.out:
+            self.disk.err.write(f"cannot write standard output: {os.strerror(error)}\n".encode())
+
+    def report(self, trouble):
+        """Tells what could not be done with a file."""
+        self.disk.err.write(f"{trouble}\n".encode())
+        if self.json:
+            self.tell("", FAILED, {"trouble": in_json(trouble.name)})
+        return FAILED
+
+    def settle(self, reply, about="", fields=None):
+        """Goes on if a call is done."""
+        if reply.number:
+            raise Refused(reply, about, (fields or {}) | self.lent_fields)
+
+    def done(self, text, fields, content=b""):
+        """Tells of a call that is done, its output saved where it is named."""
+        output = self.call.output
+        if output is not None:
+            self.disk.save(output, bytes(content), "-f" in self.call.options)
+            text += f", in {'standard output' if output == STANDARD else escaped(output)}"
+            fields = fields | {"output": in_json(output)}
+        self.tell(f"done: {text}\n", DONE, {"number": 0, "place": 0} | fields | self.lent_fields)
+        return DONE
 
     def load(self, what="CELLS"):
         return self.words[what], list(self.disk.load(self.words[what]))
 
     def lent(self):
         """The table that -t names, or one that is built; of a profile out of range there is none."""
-        if "t" not in self.options:
+        if "-t" not in self.call.options:
             return [] if second.refused_profile(self.profile) else second.table_of(self.profile)
-        data = self.disk.load(self.options["t"])
+        data = self.disk.load(self.call.options["-t"])
         return [int.from_bytes(data[i : i + 8], "little") for i in range(0, len(data) - 7, 8)]
 
-    def done(self, text, what=None, content=b""):
-        """What is told of a call that is done, its output saved where it is named."""
-        if what not in self.words:
-            return f"done: {text}\n"
-        self.disk.save(self.words[what], bytes(content), "f" in self.options)
-        return f"done: {text}, in {self.words[what]}\n"
+    def settle_cells(self, reply, name, cells, profile=None):
+        """Goes on if a call on one file of cells is done."""
+        fields = {"cells": counted(len(cells), MOST_CELLS)} | spotted(reply, profile) | {"input": in_json(name)}
+        self.settle(reply, about_cells(reply, name, cells, profile), fields)
+
+    def dump(self, name, cells, table):
+        """The bits of a dump: how many, their bytes, and what is told of them as JSON."""
+        reply, bits, data = second.read(self.profile, table, cells, [0] * MOST_BYTES)
+        self.settle_cells(reply, name, cells, self.profile)
+        return bits, data[: -(-bits // 8)], {"cells": len(cells), "bits": bits, "input": in_json(name)}
 
     def read(self):
         name, cells = self.load()
-        reply, bits, data = second.read(self.profile, self.lent(), cells, [0] * MOST_BYTES)
-        settle(reply, about_cells(reply, name, cells, self.profile))
-        return self.done(f"{len(cells)} cells read as {bits} bits", "BITS", data[: -(-bits // 8)])
+        bits, data, fields = self.dump(name, cells, self.lent())
+        return self.done(f"{len(cells)} cells read as {bits} bits", fields, data)
+
+    def check(self):
+        table, statuses, numbers = self.lent(), [], Counter()
+        for name in self.words["CELLS"]:
+            statuses.append(self.check_one(name, table, numbers))
+        parts = [f"{statuses.count(DONE)} done"] * (DONE in statuses)
+        parts += [f"{count} refused {number}" for number, count in sorted(numbers.items())]
+        parts += [f"{statuses.count(FAILED)} not read"] * (FAILED in statuses)
+        kinds = {kind: statuses.count(status) for kind, status in [("done", DONE), ("refused", REFUSED), ("not_read", FAILED)]}
+        self.tell(f"{len(statuses)} files: {', '.join(parts)}\n", max(statuses), {"files": len(statuses)} | kinds)
+        return max(statuses)
+
+    def check_one(self, name, table, numbers):
+        """Tells of one file of check; `numbers` counts the refusals."""
+        try:
+            cells = list(self.disk.load(name))
+            bits, _, fields = self.dump(name, cells, table)
+            told = f"{shown(name)}: done, {len(cells)} cells read as {bits} bits\n"
+            self.tell(told, DONE, {"number": 0, "place": 0} | fields | self.lent_fields)
+            return DONE
+        except Refused as refused:
+            numbers[refused.number] += 1
+            self.tell(f"{shown(name)}: {refused}\n", REFUSED, refused.fields)
+            return REFUSED
+        except Trouble as trouble:
+            return self.report(trouble)
 
     def write(self):
         (name, data), table = self.load("BITS"), self.lent()
         held = 8 * len(data)
         over = held % (second.rate(self.profile, table, 1).bits or 1)
-        bits = self.options.get("n", held - over if over < 8 else held)
+        bits = self.call.options.get("-n", held - over if over < 8 else held)
         reply, count, cells = second.write(self.profile, table, data, bits, [0] * MOST_CELLS)
-        settle(reply, about_length(reply, name, len(data), MOST_BYTES, "bytes"))
-        return self.done(f"{bits} bits written as {count} cells", "CELLS", cells[:count])
+        about = about_length(reply, name, len(data), MOST_BYTES, "bytes")
+        self.settle(reply, about, {"bytes": counted(len(data), MOST_BYTES), "input": in_json(name)})
+        fields = {"bits": bits, "cells": count, "input": in_json(name)}
+        return self.done(f"{bits} bits written as {count} cells", fields, cells[:count])
 
     def find(self):
         name, cells = self.load()
-        reply = second.find(self.words["Q"], self.words["X"], cells)
-        settle(reply, about_cells(reply, name, cells))
-        return self.done(f"no forbidden pattern in {len(cells)} cells")
+        self.settle_cells(second.find(self.words["Q"], self.words["X"], cells), name, cells)
+        return self.done(f"no forbidden pattern in {len(cells)} cells", {"cells": len(cells), "input": in_json(name)})
 
     def join(self):
         streams = [self.load("FIRST"), self.load("SECOND")]
@@ -208,68 +250,84 @@ class Run:
         reply, count, joined = second.join(self.profile, first, then, [0] * (2 * MOST_CELLS))
         late = reply.place >= len(first)
         local = reply._replace(place=reply.place - len(first)) if late else reply
+        of_names = {what: in_json(name) for what, (name, _) in zip(("first", "second"), streams)}
+        place = {"file": ("first", "second")[late]} | spotted(local, self.profile) if reply.number in AMONG_CELLS else {}
+        lengths = {f"{what}_cells": counted(len(cells), MOST_CELLS) for what, (_, cells) in zip(of_names, streams)}
         refused = streams if reply.number < 10 else [streams[late]]
-        settle(reply, "".join(about_cells(local, *stream, self.profile) for stream in refused))
-        return self.done(f"{len(first)} cells and {len(then)} cells joined as {count} cells", "JOINED", joined[:count])
+        self.settle(reply, "".join(about_cells(local, *stream, self.profile) for stream in refused), lengths | place | of_names)
+        text = f"{len(first)} cells and {len(then)} cells joined as {count} cells"
+        return self.done(text, lengths | {"cells": count} | of_names, joined[:count])
 
     def turn(self):
         name, cells = self.load()
         reply, count, turned = second.turn(self.profile, cells, [0] * MOST_CELLS)
-        settle(reply, about_cells(reply, name, cells, self.profile))
-        return self.done(f"{count} cells turned", "TURNED", turned[:count])
+        self.settle_cells(reply, name, cells, self.profile)
+        return self.done(f"{count} cells turned", {"cells": count, "input": in_json(name)}, turned[:count])
 
     def index(self):
         name, cells = self.load()
         reply, index = second.index(self.profile, self.lent(), cells)
-        settle(reply, about_cells(reply, name, cells))
-        return self.done(f"index {index}")
+        self.settle_cells(reply, name, cells)
+        return self.done(f"index {index}", {"index": str(index), "input": in_json(name)})
 
     def word(self):
         limbs = second.limbs_of(min(self.words["INDEX"], 2**640 - 1))
         reply, count, cells = second.word(self.profile, self.lent(), limbs, [0] * 128)
-        settle(reply)
-        return self.done(f"word {','.join(map(str, cells[:count]))}", "CELLS", cells[:count])
+        self.settle(reply)
+        return self.done(f"word {','.join(map(str, cells[:count]))}", {"word": cells[:count]}, cells[:count])
 
     def table(self):
         m, limbs = self.profile.m, self.lent()
-        settle(second.refused_profile(self.profile) or second.refused_table(self.profile, limbs) or second.DONE)
-        if "t" in self.options:
-            return self.done("the table belongs")
-        if "TABLE" in self.words:
-            return self.done(f"{m + 1} rows", "TABLE", b"".join(limb.to_bytes(8, "little") for limb in limbs))
+        self.settle(second.refused_profile(self.profile) or second.refused_table(self.profile, limbs) or second.DONE)
+        if "-t" in self.call.options:
+            return self.done("the table belongs", {})
+        if self.call.output is not None:
+            return self.done(f"{m + 1} rows", {"rows": m + 1}, b"".join(limb.to_bytes(8, "little") for limb in limbs))
         counts = [second.count(second.with_length(self.profile, i)) for i in range(m + 1)]
-        return self.done(f"{m + 1} rows, N(0) to N({m})") + "".join(f"N({i}) = {n}\n" for i, n in enumerate(counts))
+        lines = "".join(f"\nN({i}) = {n}" for i, n in enumerate(counts))
+        return self.done(f"{m + 1} rows, N(0) to N({m}){lines}", {"rows": m + 1, "counts": list(map(str, counts))})
 
     def rate(self):
-        reply, bits, cells = second.rate(self.profile, self.lent(), self.words["WORDS"])
-        settle(reply)
-        return self.done(f"{self.words['WORDS']} words carry {bits} bits in {cells} cells")
+        words = self.words["WORDS"]
+        reply, bits, cells = second.rate(self.profile, self.lent(), words)
+        self.settle(reply)
+        return self.done(f"{words} words carry {bits} bits in {cells} cells", {"words": words, "bits": bits, "cells": cells})
 
     def profiles(self):
-        told = ""
-        for row in [self.words["ROW"]] if "ROW" in self.words else range(40):
+        for row in [self.words["ROW"]] if "ROW" in self.words else range(len(second.ROWS)):
             reply, p, s = second.published(row)
-            settle(reply)
-            told += f"row {row}: q {p.q}, m {p.m}, x {p.x}, s {s}\n"
-        return told
+            self.settle(reply)
+            fields = {"number": 0, "place": 0, "row": row} | p._asdict() | {"s": s}
+            if not self.untold:
+                self.tell(f"row {row}: q {p.q}, m {p.m}, x {p.x}, s {s}\n", DONE, fields)
+        return DONE
 
     def list(self):
-        settle(second.refused_profile(self.profile) or second.DONE)
-        return second.printed(second.line_of(self.profile))
+        self.settle(second.refused_profile(self.profile) or second.DONE)
+        text = second.printed(second.line_of(self.profile))
+        if text == f"{TOO_MANY}\n":
+            self.tell(text, REFUSED, {"told": TOO_MANY})
+            return REFUSED
+        first, *lines = text.splitlines()
+        counts = dict(zip(("q", "m", "x", "words", "bits"), map(int, first.split())))
+        self.tell(text, DONE, {"number": 0, "place": 0} | counts | {"list": [listed(line) for line in lines]})
+        return DONE
 
     def help(self):
-        return HELP
+        self.tell(usage(self.words["SUBCOMMAND"]) if "SUBCOMMAND" in self.words else HELP)
+        return DONE
+
+    def version(self):
+        self.tell(version())
+        return DONE
 
 
-def remi(arguments, files, closed=0, full=0):
-    """What is printed on standard output and on standard error, and the files afterwards."""
-    disk = Disk(files, closed, full)
+def remi(arguments, files, who, **how):
+    """What is printed on standard output and on standard error, the exit status, and the files afterwards; `how` as a disk takes it."""
+    disk, numbers = Disk(files, who, **how), set()
     try:
-        name, words, options = parsed(arguments)
-        return getattr(Run(words, options, disk), name)(), "", disk.files
-    except Wrong:
-        return "", HELP, disk.files
-    except Refused as told:
-        return str(told), "", disk.files
-    except Stopped as told:
-        return "", f"{told}\n", disk.files
+        status = Run(parsed(arguments), disk, numbers).status()
+    except Fault as fault:
+        disk.err.write(f"{fault}\n".encode())
+        status = FAILED
+    return Result(*disk.printed(), status, disk.after(), numbers)

@@ -11,6 +11,7 @@ TOLD = {
     name: numbers - OUTPUT_SHORT
     for name, numbers in {
         "read": NUMBERS["read_stream"],
+        "check": NUMBERS["read_stream"],
         "write": NUMBERS["write_stream"],
         "find": NUMBERS["find_pattern"],
         "join": NUMBERS["join_streams"],
