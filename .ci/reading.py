@@ -162,7 +162,7 @@ def functions():
 def types_in(path, text):
     """The structs and enums of this repository that Rust types in a source name."""
     scope = source_scope(path)[1]
-    for place, name in re.findall(r"((?:\w+::)*)\b([A-Z]\w+)\b", text):
+    for place, name in re.findall(r"((?:\w+::)*)\b([A-Z]\w*[a-z]\w*)\b", text):
         owner = (place.split("::")[:-1] or scope.get(name, ["crate"]))[0]
         folder = path.parent if owner in ("crate", "super") else ROOT / "crates" / owner / "src"
         found = [file for file in sorted(folder.glob("*.rt")) if re.search(rf"\b(struct|enum) {name}\b", bare(file.read_text(), "//"))]
