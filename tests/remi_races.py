@@ -14,13 +14,12 @@ import subprocess
 import sys
 import termios
 import time
-from bisect import bisect_left
 from itertools import count, cycle
 from pathlib import Path
 
 import second
 from remi import FAILED, remi
-from remi_disk import CLAIM, file, folder
+from remi_disk import file
 from remi_trial import MASK, SECONDS, WHO, Trials, entry_of, found, spelt
 from second import Profile
 
@@ -28,7 +27,6 @@ trials = Trials(sys.argv[1:])
 PROFILE = Profile(4, 14, 1)
 OVER = ["-f"]
 TWO, EIGHT = 200, 20
-SOME = 50
 
 
 def streams(number):
@@ -126,8 +124,6 @@ def answer(program):
 WRITING = {
     "a new file": ([], {}),
     "over a file": (OVER, {"out": file(b"old", 0o640)}),
-    "a new file, a claim left over": ([], {CLAIM: folder(0o700), f"{CLAIM}/out": b"half"}),
-    "over a file, a claim left over": (OVER, {"out": file(b"old", 0o640), CLAIM: folder(0o700), f"{CLAIM}/out": b"half"}),
 }
 
 
@@ -161,23 +157,16 @@ def again(line, before, settings):
         fail(f"remi {' '.join(line)} once more after {settings}", *seen, *before.items(), "afterwards", *there.items())
 
 
-def points(line, before):
-    """Every call of a program, counted from 1, or of many the first, the last and some between."""
-    most = 1
-    while kill(line, before, {"KILL_BEFORE": most}):
-        most *= 2
-    total = bisect_left(range(most), True, lo=1, key=lambda number: not kill(line, before, {"KILL_BEFORE": number})) - 1
-    return [number for number in range(1, total + 1) if min(number, total - number) < SOME or number % (total // SOME) == 0]
-
-
 def kills():
     """Kills before and after each call, for each way of writing; how many there were."""
     cells, done = streams(1)[0], 0
     for options, before in WRITING.values():
         files = {name: entry_of(entry) for name, entry in ({"cells": cells} | before).items()}
         line = list(spelt(["turn", PROFILE, "cells", "out", *options]))
-        for number in points(line, files):
-            done += kill(line, files, {"KILL_BEFORE": number}) + kill(line, files, {"KILL_AFTER": number})
+        number = 1
+        while kill(line, files, {"KILL_BEFORE": number}):
+            done += 1 + kill(line, files, {"KILL_AFTER": number})
+            number += 1
     return done
 
 
