@@ -1,5 +1,7 @@
 // Bits moved between bytes, where the high bit comes first and nothing stands between messages, and
 // limbs.
+#![tactic(auto)]
+
 ghost use Rattle.std.specs.Prelude.{◌≡◌, ◌+◌, ◌-◌, ◌*◌, ◌/◌, ◌%◌, ◌^◌, ◌≤◌, ◌<◌, length, take, drop};
 ghost use Rattle.limbs.specs.Limbs.{number_at, holding};
 ghost use Rattle.bits.specs.Bits.{bits_of, number_of, bits_of_bytes, with_bits};

@@ -1,6 +1,8 @@
 // Runs every call but the listing over a script of cases, and prints every answer
 // with what was lent after it. The script and what must be printed are written by tests/calls.py, which
 // shares no code with the crates.
+#![tactic(auto)]
+
 mod long;
 mod profiles;
 mod stream;

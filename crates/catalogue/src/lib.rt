@@ -1,4 +1,6 @@
 // The published profiles, and the rate of a profile.
+#![tactic(auto)]
+
 ghost use Rattle.std.specs.Prelude.{◌≡◌};
 ghost use Rattle.catalogue.specs.Catalogue.{publishing};
 ghost use Rattle.catalogue.specs.Rating.{rate_refusal, rating};
@@ -9,7 +11,7 @@ mod rows;
 
 // A published profile: the reply, and q, x, m and the message length s, which are 0 where the call is refused.
 #[repr(C)]
-#[derive(Drop)]
+#[derive(Clone, Copy)]
 pub struct Published {
     pub reply: Reply,
     pub q: usize,
@@ -20,7 +22,7 @@ pub struct Published {
 
 // The rate of n words: the reply, and bits and cells, which are 0 where the call is refused.
 #[repr(C)]
-#[derive(Drop)]
+#[derive(Clone, Copy)]
 pub struct Rated {
     pub reply: Reply,
     pub bits: usize,

@@ -1,4 +1,6 @@
 // The tests of cells: a cell at or above q, a forbidden pattern; and the pattern finder.
+#![tactic(auto)]
+
 ghost use Rattle.std.specs.Prelude.{◌≡◌};
 ghost use Rattle.code.specs.Code.{published};
 ghost use Rattle.replies.specs.Ranges.{Between};

@@ -1,4 +1,6 @@
 // A small code as text: what the listing program prints for the line that it reads.
+#![tactic(auto)]
+
 ghost use Rattle.std.specs.Prelude.{◌++◌, ◌≡◌, ◌≤◌, ◌<◌, ltb, length, take};
 ghost use Rattle.io.specs.Counts.{IsPrefixLen};
 ghost use Rattle.limbs.specs.Limbs.{value};

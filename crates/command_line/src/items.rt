@@ -24,7 +24,7 @@ pub const LONG: u8 = b'l';
 
 // An argument, the one behind it that it takes, or 0, the one where the next item begins, and whether the
 // options have ended there.
-#[derive(Drop)]
+#[derive(Clone, Copy)]
 pub struct Item {
     pub kind: u8,
     pub taken: usize,

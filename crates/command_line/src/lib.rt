@@ -1,5 +1,7 @@
 // The command line of the bench program: its words, its options, the numbers and profiles in it, and what is
 // wrong with it.
+#![tactic(auto)]
+
 ghost use Rattle.io.specs.Counts.{IsPrefixLen};
 
 use items::Item;
@@ -12,7 +14,7 @@ pub mod wrong;
 
 // What the program was started with: what is wrong with it; how many words there are, of which word 0 is the
 // subcommand; the options that stand there; and the arguments that -t and -n take, 0 without these.
-#[derive(Drop)]
+#[derive(Clone, Copy)]
 pub struct Line {
     pub wrong: Wrong,
     pub count: usize,
@@ -25,7 +27,7 @@ pub struct Line {
 }
 
 // A number as it was typed, if it is one.
-#[derive(Drop)]
+#[derive(Clone, Copy)]
 pub struct Typed {
     pub wrong: Wrong,
     pub value: u64,
@@ -33,7 +35,7 @@ pub struct Typed {
 
 // A profile as it was typed, if it is one, and the number of the word behind it. A row of the published
 // profiles that there is not is refused.
-#[derive(Drop)]
+#[derive(Clone, Copy)]
 pub struct Asked {
     pub wrong: Wrong,
     pub reply: Reply,
@@ -42,7 +44,7 @@ pub struct Asked {
 }
 
 // The subcommands, and any other word.
-#[derive(Drop)]
+#[derive(Clone, Copy)]
 pub enum Command {
     Read,
     Check,

@@ -37,7 +37,7 @@ pub const TOO_LONG: u8 = 10;
 pub const TWO_STANDARD: u8 = 11;
 
 // What is wrong, and the argument or the option that is.
-#[derive(Drop)]
+#[derive(Clone, Copy)]
 pub struct Wrong {
     pub what: u8,
     pub at: usize,

@@ -3,7 +3,7 @@ use command_line::Line;
 use replies::Reply;
 
 // Where it is told, how many bytes of the page are filled, and whether all before could be written.
-#[derive(Drop)]
+#[derive(Clone, Copy)]
 pub struct Told {
     pub to: i32,
     pub at: usize,

@@ -13,7 +13,7 @@ const OUTCOMES: usize = 18;
 const NOT_READ: usize = 17;
 
 // What came of one file, and what has been told by then.
-#[derive(Drop)]
+#[derive(Clone, Copy)]
 struct Checked {
     told: Told,
     outcome: usize,

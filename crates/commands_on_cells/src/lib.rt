@@ -1,5 +1,7 @@
 // The subcommands on files of cells: read, check, turn, join, index, find; and write, on a file of bits. Each
 // answers the exit status.
+#![tactic(auto)]
+
 use command_line::shape::NO_OUTPUT;
 use command_line::{Asked, Command, Line};
 use commands::telling::{PAGE, Told, counted, text};

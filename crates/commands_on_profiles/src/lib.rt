@@ -1,5 +1,7 @@
 // The subcommands on profiles: table, rate, profiles, list, and the word of an index. Each answers the exit
 // status.
+#![tactic(auto)]
+
 ghost use Rattle.std.specs.Prelude.{◌+◌, ◌≤◌};
 
 use catalogue::{Published, Rated};

@@ -1,5 +1,7 @@
 // The library called from Rattle: two messages are written as a stream of cells and read back; then a
 // cell is damaged, and the stream is refused.
+#![tactic(auto)]
+
 use replies::Written;
 use script::show;
 

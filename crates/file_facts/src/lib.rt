@@ -1,4 +1,6 @@
 // Facts of files: what the system says of a file, and what that tells.
+#![tactic(auto)]
+
 ghost use Rattle.std.specs.Prelude.{true, false, ◌≡◌};
 ghost use Rattle.libc.specs.Io.{Ended};
 ghost use Rattle.file_facts.specs.Facts.{nothing_known, known_by, same_file, is_regular, kept_mode};
@@ -8,7 +10,7 @@ use libc::PATH_MAX;
 use libc::types::{stat, timespec};
 
 // What is known of a file: whether there is one, the device and the number that it has, its mode, owner and group.
-#[derive(Drop)]
+#[derive(Clone, Copy)]
 pub struct Facts {
     pub found: bool,
     pub device: u64,

@@ -7,7 +7,7 @@ use file_facts::Facts;
 const TRIES: usize = 1000;
 
 // What came of reading: whether the input was read to its end or the lent bytes are full, and how many are.
-#[derive(Drop)]
+#[derive(Clone, Copy)]
 pub struct Filled {
     pub done: bool,
     pub count: usize,

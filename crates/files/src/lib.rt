@@ -1,5 +1,7 @@
 // Files as a person names them: one is read whole into lent bytes, one is written whole or not at all. The
 // name - is standard input or standard output. What cannot be done is said in one line on standard error.
+#![tactic(auto)]
+
 ghost use Rattle.io.specs.Counts.{IsPrefixLen};
 
 use file_facts::Facts;
@@ -11,7 +13,7 @@ pub mod saving;
 pub mod table;
 
 // What came of reading a file: whether it was read, how many of the lent bytes it fills, and which file it is.
-#[derive(Drop)]
+#[derive(Clone, Copy)]
 pub struct Loaded {
     pub done: bool,
     pub count: usize,
@@ -19,7 +21,7 @@ pub struct Loaded {
 }
 
 // The files that a subcommand has read.
-#[derive(Drop)]
+#[derive(Clone, Copy)]
 pub struct Inputs {
     pub first: Facts,
     pub second: Facts,

@@ -1,4 +1,6 @@
 // The index of a word: the number of legal words of its length before it.
+#![tactic(auto)]
+
 ghost use Rattle.std.specs.Prelude.{◌≡◌, ◌≤◌};
 ghost use Rattle.index_of_word.specs.Indexing.{word_refusal, indexing};
 ghost use Rattle.index_of_word.specs.Spans.{Span};
@@ -11,7 +13,7 @@ mod stretch;
 
 // The answer: the reply, and the index, which is 0 where the call is refused.
 #[repr(C)]
-#[derive(Drop)]
+#[derive(Clone, Copy)]
 pub struct Indexed {
     pub reply: Reply,
     pub index: Index,

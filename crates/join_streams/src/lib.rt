@@ -1,4 +1,6 @@
 // Two streams joined, and a stream turned end for end.
+#![tactic(auto)]
+
 ghost use Rattle.std.specs.Prelude.{◌≡◌, ◌++◌, ◌+◌, ◌≤◌, length, take, drop};
 ghost use Rattle.patterns.specs.Stream.{joined, turned};
 ghost use Rattle.replies.specs.Ranges.{InRange};

@@ -1,6 +1,8 @@
 // Runs each function of `limbs` on limbs that are drawn from a seed, and prints every answer with the
 // whole of the lent slice behind it. What it must print is written by tests/limbs.py, which shares no
 // code with it.
+#![tactic(auto)]
+
 ghost use Rattle.std.specs.Prelude.{◌≡◌, ◌≤◌};
 
 use limbs::Order;

@@ -1,6 +1,8 @@
 // Runs the listing over a script of inputs, and prints every answer with a digest of the lent text,
 // and the text itself where it is short. The script and what must be printed are written by
 // tests/listing.py, which shares no code with the crates.
+#![tactic(auto)]
+
 use script::{lent, show};
 
 // A text of more bytes is shown by its digest alone.

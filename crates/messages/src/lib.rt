@@ -1,5 +1,7 @@
 // What every call on messages stands on: the message length of a profile, number 4, and the tests that
 // come before all others.
+#![tactic(auto)]
+
 ghost use Rattle.std.specs.Prelude.{◌≡◌, ◌≤◌, ◌<◌, length};
 ghost use Rattle.limbs.specs.Limbs.{number_at};
 ghost use Rattle.replies.specs.Ranges.{InRange};

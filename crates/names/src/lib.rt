@@ -1,5 +1,7 @@
 // Names of files as they are printed: a name is any bytes, and what is printed of it has no control
 // character, begins no line and turns no writing; within the quotes of JSON it ends no quote.
+#![tactic(auto)]
+
 ghost use Rattle.std.specs.Prelude.{◌≡◌, ◌<◌, length, take, drop};
 ghost use Rattle.io.specs.Counts.{IsPrefixLen};
 ghost use Rattle.io.specs.Digits.{hex_digit_ascii};
@@ -9,7 +11,7 @@ ghost use Rattle.names.specs.Quotes.{quoted_byte, quoted_in};
 
 // How a character of UTF-8 begins: how many bytes it has, what the first gives of its code point, and
 // the least code point that takes as many bytes.
-#[derive(Drop)]
+#[derive(Clone, Copy)]
 struct Lead {
     size: usize,
     bits: u32,

@@ -1,5 +1,7 @@
 // What a person is told of a reply: its number, its place and what they mean, in document 01's words;
 // the cells around the place; and the word or the bridge that it lies in.
+#![tactic(auto)]
+
 ghost use Rattle.std.specs.Prelude.{◌≡◌, take};
 ghost use Rattle.io.specs.Counts.{IsPrefixLen};
 ghost use Rattle.text.specs.Put.{Fits, Put};
@@ -15,7 +17,7 @@ const SHOWN: usize = 8;
 
 // Where a place of a stream lies: which word, or which word the bridge stands behind, counted from 0;
 // which cell of it; and the places of its first and last cell.
-#[derive(Drop)]
+#[derive(Clone, Copy)]
 pub struct Spot {
     pub in_bridge: bool,
     pub word: usize,

@@ -1,4 +1,5 @@
 // The first part of something lent.
+#![tactic(auto)]
 
 // The first n limbs, or all where there are fewer.
 pub fn first_limbs(limbs: &[u64], n: usize) -> &[u64] {

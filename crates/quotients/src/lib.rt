@@ -1,4 +1,6 @@
 // How much there is of one number for each of another: spelt as a decimal with four places, and compared.
+#![tactic(auto)]
+
 ghost use Rattle.std.specs.Prelude.{◌≡◌, take};
 ghost use Rattle.io.specs.Counts.{IsPrefixLen};
 ghost use Rattle.text.specs.Put.{Fits, Put};

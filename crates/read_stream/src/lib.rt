@@ -1,5 +1,7 @@
 // A stream read back to message bits. All tests go before the first word is read, so that a refusal
 // writes nothing.
+#![tactic(auto)]
+
 ghost use Rattle.std.specs.Prelude.{◌≡◌, length};
 ghost use Rattle.profiles.specs.Profiles.{length_of};
 ghost use Rattle.messages.specs.Carrying.{CarriesMessages};

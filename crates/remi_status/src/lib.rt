@@ -1,5 +1,7 @@
 // The bench program: one subcommand for each call, over files of cells, bits and tables. Each outcome is told
 // in words, with document 01's number and place, or as JSON; what is answered is the exit status.
+#![tactic(auto)]
+
 use command_line::{Asked, Command, Line, shape, wrong};
 use commands::telling::{PAGE, Told};
 use commands::{faults, refusals, telling};

@@ -1,5 +1,7 @@
 // The library for C and Rust: every public call under one prefix, as c/remizutogya.h declares
 // it. Each promises what the call behind it promises, and does nothing else.
+#![tactic(auto)]
+
 ghost use Rattle.std.specs.Prelude.{◌≡◌};
 ghost use Rattle.tables.specs.Tables.{building, handing_out};
 ghost use Rattle.index_of_word.specs.Indexing.{indexing};

@@ -1,12 +1,14 @@
 // What a call is handed and what it answers: the profile, the reply with its number and place, which
 // of two replies decides, and the tests of a profile and of the room in a lent output.
+#![tactic(auto)]
+
 ghost use Rattle.std.specs.Prelude.{◌≡◌, ◌+◌, ◌^◌, ◌<◌};
 ghost use Rattle.replies.specs.Replies.{profile_of, done, refused, refused_if, moved_by, lowest, outside_refusal, levels_refusal, length_refusal, reach_refusal, profile_refusal, room_refusal};
 
 // A profile: q levels, word length m, reach x. Any numbers may be handed in; what is out of range is
 // refused.
 #[repr(C)]
-#[derive(Drop)]
+#[derive(Clone, Copy)]
 pub struct Profile {
     pub q: usize,
     pub m: usize,
@@ -15,7 +17,7 @@ pub struct Profile {
 
 // A reply: its number, and its place where the number has one.
 #[repr(C)]
-#[derive(Drop)]
+#[derive(Clone, Copy)]
 pub struct Reply {
     pub number: u8,
     pub place: usize,
@@ -23,7 +25,7 @@ pub struct Reply {
 
 // The answer of a call that writes: its reply, and how many cells, bits or limbs it wrote.
 #[repr(C)]
-#[derive(Drop)]
+#[derive(Clone, Copy)]
 pub struct Written {
     pub reply: Reply,
     pub count: usize,

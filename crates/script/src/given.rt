@@ -3,14 +3,14 @@ use replies::Profile;
 use std::num::wrapping_add_u64;
 
 // A profile, and the place behind it.
-#[derive(Drop)]
+#[derive(Clone, Copy)]
 pub struct Given {
     pub profile: Profile,
     pub next: usize,
 }
 
 // A profile, how many limbs of a table are lent with it, and the place behind both.
-#[derive(Drop)]
+#[derive(Clone, Copy)]
 pub struct Tabled {
     pub profile: Profile,
     pub limbs: usize,

@@ -2,6 +2,8 @@
 // runs of cells, lending a part of an output, and showing answers. A script is how many cases there
 // are, and then the cases, each with its length in bytes before it. In a case only the digits count;
 // what stands between numbers is for the reader.
+#![tactic(auto)]
+
 ghost use Rattle.std.specs.Prelude.{◌≤◌};
 
 use std::num::wrapping_add_u64;
@@ -11,14 +13,14 @@ pub mod lent;
 pub mod show;
 
 // A number of the script, and the place behind it.
-#[derive(Drop)]
+#[derive(Clone, Copy)]
 pub struct Read {
     pub value: u64,
     pub next: usize,
 }
 
 // A count of the script, or of what was filled from it, and the place behind it.
-#[derive(Drop)]
+#[derive(Clone, Copy)]
 pub struct Counted {
     pub n: usize,
     pub next: usize,

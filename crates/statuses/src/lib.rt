@@ -1,4 +1,6 @@
 // The exit status of the bench program: 0 done, 1 refused, 2 a wrong command line or trouble with a file.
+#![tactic(auto)]
+
 ghost use Rattle.std.specs.Prelude.{◌≡◌, max};
 ghost use Rattle.statuses.specs.Statuses.{status_of, status_told};
 

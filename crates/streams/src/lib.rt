@@ -1,4 +1,6 @@
 // The tests that calls on streams share, and the bridge between two words.
+#![tactic(auto)]
+
 ghost use Rattle.std.specs.Prelude.{◌≡◌, true, ◌++◌, ◌+◌, ◌-◌, ◌^◌, ◌<◌, length, take, drop, get_or};
 ghost use Rattle.replies.specs.Replies.{done};
 ghost use Rattle.replies.specs.Ranges.{InRange};

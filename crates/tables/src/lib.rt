@@ -1,4 +1,6 @@
 // Tables of counts: built, shipped, and checked against a profile.
+#![tactic(auto)]
+
 ghost use Rattle.std.specs.Prelude.{not, ◌≡◌, ◌+◌, ◌*◌, ◌≤◌, eqb, length};
 ghost use Rattle.limbs.specs.Limbs.{value, number_at};
 ghost use Rattle.replies.specs.Replies.{or_else, room_refusal};

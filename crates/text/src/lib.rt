@@ -1,5 +1,7 @@
 // Text in lent bytes of ASCII: bytes as they stand, numbers in decimal and levels joined by commas are
 // put, and the line of three numbers is read.
+#![tactic(auto)]
+
 ghost use Rattle.std.specs.Prelude.{◌≡◌};
 ghost use Rattle.listing.specs.Same.{same};
 ghost use Rattle.text.specs.Text.{decimal, levels_text};
@@ -12,7 +14,9 @@ pub fn put(out: &mut [u8], at: usize, text: &[u8]) -> usize
     requires { Fits out.old at text.now }
     ensures { Put out.old at text.now out.new result }
 {
-    at + bytes::copy(text, &mut out[at..])
+    let next = at + text.len();
+    out[at..next].copy_from_slice(text);
+    next
 }
 
 // Puts a number in decimal.

@@ -8,7 +8,7 @@ ghost use Rattle.text.specs.Line.{profile_text, number_in, behind_number, profil
 use replies::Profile;
 
 // A number, and the place behind the byte after its digits.
-#[derive(Drop)]
+#[derive(Clone, Copy)]
 struct Numeral {
     value: usize,
     next: usize,

@@ -1,5 +1,7 @@
 // The word of an index: the one legal word with that many before it. The leftmost level is settled
 // first, and the rest is a shorter task of the same kind.
+#![tactic(auto)]
+
 ghost use Rattle.std.specs.Prelude.{◌≡◌, ◌++◌, ◌+◌, ◌-◌, ◌≤◌, ◌<◌, leb, length, take, drop};
 ghost use Rattle.limbs.specs.Limbs.{value, number_at, holding};
 ghost use Rattle.patterns.specs.Walk.{guard_after};

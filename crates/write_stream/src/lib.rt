@@ -1,5 +1,7 @@
 // Message bits written as a bridged stream: the word that carries each message, and a bridge between
 // neighbours.
+#![tactic(auto)]
+
 ghost use Rattle.std.specs.Prelude.{List, ◌++◌, ◌≡◌, ℕ, ◌+◌, ◌*◌, ◌≤◌, ◌<◌, length, take, drop};
 ghost use Rattle.replies.specs.declared.Profile.{Profile};
 ghost use Rattle.replies.specs.Ranges.{InRange, most_words};
