@@ -19,7 +19,12 @@ LIBRARY = set("length take drop append reverse replicate get_or set add sub mul 
 # Names of the library that were spelt otherwise.
 OTHERWISE = {"getD": "get_or"}
 # Names that fall together with another, or would hide a word, and what stands for them.
-BY_HAND = {"bits-of-limb": "bits_of_row_limb"}
+BY_HAND = {
+    "bits-of-limb": "bits_of_row_limb",
+    "left_over": "left_over_lem",
+    "stays_within": "stays_within_lem",
+    "noWords": "words_of_none",
+}
 
 
 def snake(word):

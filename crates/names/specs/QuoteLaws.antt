@@ -65,10 +65,10 @@ byte_within b l = go (eqb b (byte "\"")) (eqb b (byte "\\")) refl refl
     go true t quote slash = refl
 
 -- A text stays within its quotes.
-pub stays_within : (text : List ℕ) → stays_within false (quoted text) ≡ true
+pub stays_within_lem : (text : List ℕ) → stays_within false (quoted text) ≡ true
 unfolding quoted stays_within
-stays_within [] = refl
-stays_within (b ∷ l) = byte_within b (quoted l) ∙ stays_within l
+stays_within_lem [] = refl
+stays_within_lem (b ∷ l) = byte_within b (quoted l) ∙ stays_within_lem l
 
 -- It reads back as itself, ..
 pub quoted_back : (text : List ℕ) → taken_in false (quoted text) ≡ text

@@ -36,8 +36,8 @@ words =
     ∷ []
 
 -- The words on a number that is not in use.
-abbrev pub no_words : Words
-no_words = plain (bytes "number that has no meaning")
+abbrev pub words_of_none : Words
+words_of_none = plain (bytes "number that has no meaning")
 
 -- Words with the place behind them.
 unfoldable pub placed_text : List ℕ → ℕ → List ℕ
@@ -50,7 +50,7 @@ spoken (placed text) place = placed_text text place
 spoken (among_cells text) place = placed_text text place
 
 unfoldable pub words_text : ℕ → ℕ → List ℕ
-words_text number place = spoken (get_or words number no_words) place
+words_text number place = spoken (get_or words number words_of_none) place
 
 -- What is told of a reply: `done`, or as `refused 11 at 345: forbidden pattern (top at 345)`.
 unfoldable pub reply_text : Reply → List ℕ
@@ -73,7 +73,7 @@ is_among_cells (placed text) = false
 is_among_cells (among_cells text) = true
 
 unfoldable pub place_in_cells : ℕ → Bool
-place_in_cells number = is_among_cells (get_or words number no_words)
+place_in_cells number = is_among_cells (get_or words number words_of_none)
 
 -- Of the cells around a place eight before it and eight behind it are shown, as far as there are so many.
 abbrev pub first_shown : ℕ → ℕ

@@ -6,10 +6,10 @@ use Rattle.std.proofs.lemmas.Bool.{lt-leb}
 use Rattle.text.specs.Text.{bytes, decimal}
 use Rattle.text.specs.DecimalLaws.{decimal-length}
 use Rattle.text.specs.PartLaws.{in_row}
-use Rattle.outcomes.specs.Outcomes.{Words, plain, placed, among_cells, words, no_words, placed_text, spoken, words_text, is_among_cells, place_in_cells}
+use Rattle.outcomes.specs.Outcomes.{Words, plain, placed, among_cells, words, words_of_none, placed_text, spoken, words_text, is_among_cells, place_in_cells}
 
 -- The words on number k are the k-th of the list.
-pub words_at : {number k : ℕ} (place : ℕ) → number ≡ k → words_text number place ≡ spoken (get_or words k no_words) place
+pub words_at : {number k : ℕ} (place : ℕ) → number ≡ k → words_text number place ≡ spoken (get_or words k words_of_none) place
 unfolding words_text
 words_at place e = rw e
 
@@ -27,13 +27,13 @@ above (suc k) number none =
     omega arith
 
 -- Past the end of a list there are no words.
-past_end : (list : List Words) (i : ℕ) → length list ≤ i → get_or list i no_words ≡ no_words
+past_end : (list : List Words) (i : ℕ) → length list ≤ i → get_or list i words_of_none ≡ words_of_none
 past_end [] i past = refl
 past_end (w ∷ list) zero past = absurd (omega arith)
 past_end (w ∷ list) (suc i) past = past_end list i (omega arith)
 
 -- A number that is none of those in use has no words.
-pub no_words : {number : ℕ} (place : ℕ) → NoneBelow (length words) number → words_text number place ≡ spoken no_words place
+pub no_words : {number : ℕ} (place : ℕ) → NoneBelow (length words) number → words_text number place ≡ spoken words_of_none place
 unfolding words_text
 no_words {number} place none = rw (past_end words number (above (length words) number none))
 
@@ -68,7 +68,7 @@ all_within most [] = true
 all_within most (w ∷ list) = leb (besides w) most && all_within most list
 
 -- So have those at any place of the list, and those on a number that is not in use if they have.
-within_at : (most : ℕ) (list : List Words) (i : ℕ) → besides no_words ≤ most → all_within most list ≡ true → besides (get_or list i no_words) ≤ most
+within_at : (most : ℕ) (list : List Words) (i : ℕ) → besides words_of_none ≤ most → all_within most list ≡ true → besides (get_or list i words_of_none) ≤ most
 within_at most [] i none all = none
 within_at most (w ∷ list) zero none all = leb-true (besides w) most ((and-eq-true_iff (leb (besides w) most) _).0 all).0
 within_at most (w ∷ list) (suc i) none all = within_at most list i none ((and-eq-true_iff (leb (besides w) most) _).0 all).1
@@ -77,7 +77,7 @@ within_at most (w ∷ list) (suc i) none all = within_at most list i none ((and-
 pub words-length : (number place : ℕ) → place < 2 ^ 64 → length (words_text number place) ≤ 93
 unfolding words_text
 words-length number place small =
-    let long = spoken-length (get_or words number no_words) place small in
+    let long = spoken-length (get_or words number words_of_none) place small in
     let short = within_at 72 words number (omega arith) refl in
     omega arith
 
@@ -100,7 +100,7 @@ abbrev alike_from : ℕ → List Words → Bool
 alike_from i [] = true
 alike_from i (w ∷ list) = alike (cell_number i) (is_among_cells w) && alike_from (suc i) list
 
-alike_at : (i : ℕ) (list : List Words) (k : ℕ) → alike_from i list ≡ true → k < length list → cell_number (i + k) ≡ is_among_cells (get_or list k no_words)
+alike_at : (i : ℕ) (list : List Words) (k : ℕ) → alike_from i list ≡ true → k < length list → cell_number (i + k) ≡ is_among_cells (get_or list k words_of_none)
 alike_at i [] k all inside = absurd (omega arith)
 alike_at i (w ∷ list) zero all inside = rw add-zero (alike_same _ _ ((and-eq-true_iff (alike (cell_number i) (is_among_cells w)) _).0 all).0)
 alike_at i (w ∷ list) (suc k) all inside =
@@ -112,7 +112,7 @@ pub cell_number_lem : (number : ℕ) → cell_number number ≡ place_in_cells n
 unfolding place_in_cells
 cell_number_lem number = go (leb (length words) number) refl
   where
-    go : (t : Bool) → leb (length words) number ≡ t → cell_number number ≡ is_among_cells (get_or words number no_words)
+    go : (t : Bool) → leb (length words) number ≡ t → cell_number number ≡ is_among_cells (get_or words number words_of_none)
     go false e = rw zero-add at (alike_at 0 words number refl (leb-false (length words) number e))
     go true e =
         let high = leb-true (length words) number e in

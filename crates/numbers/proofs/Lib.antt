@@ -1,2 +1,0 @@
--- One holds what both proofs use of the constant.
-mod One
