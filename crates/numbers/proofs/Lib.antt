@@ -1,0 +1,2 @@
+-- One holds what both proofs use of the constant.
+mod One
