@@ -13,7 +13,7 @@ abbrev small : Profile
 small = profile_of 2 3 1
 
 pub record Examples : Type 0 where
-  pub is_word : is_word small (1 ∷ 0 ∷ 0 ∷ []) ≡ true
+  pub a_word : is_word small (1 ∷ 0 ∷ 0 ∷ []) ≡ true
   pub pattern : is_word small (1 ∷ 0 ∷ 1 ∷ []) ≡ false
   pub too_high : is_word small (1 ∷ 0 ∷ 2 ∷ []) ≡ false
   pub too_long : is_word small (1 ∷ 0 ∷ 0 ∷ 0 ∷ []) ≡ false
@@ -29,7 +29,7 @@ pub record Examples : Type 0 where
 pub examples : Examples
 unfolding legal pattern_free N count_of listed all_words index index_in before word word_of message_length
 examples = record {
-  is_word = refl;
+  a_word = refl;
   pattern = refl;
   too_high = refl;
   too_long = refl;
