@@ -11,7 +11,7 @@ ROOT = Path(__file__).resolve().parent.parent
 APART = r"\s(){}.;,@\"«»"
 MARKED = r"((?:(?:unfoldable|abbrev|axiom|pub) )*)"
 HEAD = re.compile(
-    r"^( *)pub (?:extern \"C\" )?fn (\w+)\(([^()]*)\)(?: -> ([^\n{]+?))?(?: \{|\n((?: *(?:requires|ensures) \{.*\}\n)+) *\{)$", re.M
+    r"^( *)pub (?:extern \"C\" )?fn (\w+)\(([^()]*)\)(?: -> ([^\n{]+?))?(?: \{|\n((?: *(?:requires|ensures)(?: \w+)? \{.*\}\n)+) *\{)$", re.M
 )
 
 
@@ -116,20 +116,20 @@ def specs():
 
 def crate_of(module):
     """The crate of this repository that a module belongs to; none where it is the toolchain's."""
-    found = re.match(r"Rattle·(\w+?)(·\w+)?\.", module)
+    found = re.match(r"Rattle\.(\w+)\.", module)
     return found[1] if found and (ROOT / "crates" / found[1]).is_dir() else None
 
 
 def file_of(module):
-    """The file of this repository that a module is: a file of specs, or the source that declares a struct. None where it is the toolchain's."""
+    """The file of this repository that a module is: a file of specs or of laws, or the source that declares a struct. None where it is the toolchain's."""
     crate = crate_of(module)
     if crate is None:
         return None
-    place = module.split(".specs.", 1)[1].split(".")
-    if place[0] != "declared":
-        return ROOT.joinpath("crates", crate, "specs", *place).with_suffix(".antt")
-    inner = ROOT / "crates" / crate / "src" / "/".join(place[1:-1])
-    tried = [inner.with_suffix(".rt")] if place[1:-1] else [inner / "lib.rt", inner / "main.rt"]
+    place = module.split(".")[2:]
+    if place[:2] != ["specs", "declared"]:
+        return ROOT.joinpath("crates", crate, *place).with_suffix(".antt")
+    inner = ROOT / "crates" / crate / "src" / "/".join(place[2:-1])
+    tried = [inner.with_suffix(".rt")] if place[2:-1] else [inner / "lib.rt", inner / "main.rt"]
     return next((file for file in tried if file.exists()), tried[0])
 
 
@@ -139,8 +139,9 @@ def source_scope(path):
     for line in bare(path.read_text(), "//").splitlines():
         if line.strip().startswith("ghost use "):
             ghosts |= brought_by(line) or refuse(path, line)
-        elif found := re.match(r"use ([\w:]+)::(\w+);", line):
-            plain[found[2]] = found[1].split("::")
+        elif found := re.match(r"use ([\w:]+)::(?:(\w+)|\{([^{}]*)\});", line):
+            for name in re.findall(r"\w+", found[2] or found[3]):
+                plain[name] = found[1].split("::")
     return ghosts, plain
 
 
@@ -152,7 +153,7 @@ def functions():
         module = [path.parts[-3]] + ([] if path.stem in ("lib", "main") else [path.stem])
         for head in HEAD.finditer(text):
             owner = re.findall(r"^impl (\w+) \{", text[: head.start()], re.M)[-1:] if head[1] else []
-            contract = re.findall(r"(requires|ensures) \{ (.*) \}", head[5] or "")
+            contract = re.findall(r"(requires|ensures)(?: \w+)? \{ (.*) \}", head[5] or "")
             found["::".join(module + owner + [head[2]])] = path, re.findall(r"(\w+): ([^,]+)", head[3]), head[4] or "", contract
         if len(HEAD.findall(text)) != len(re.findall(r"\bpub (?:extern \"C\" )?fn ", text)):
             sys.exit(f"{path.relative_to(ROOT)}: a `pub fn` whose contract the gate cannot read")

@@ -11,21 +11,19 @@ from second import Profile
 
 HEADER = """\
 -- What an independent program found, claimed of the definitions.
-use mathlib.Core.Path.{_≡_, refl}
-use mathlib.Core.Bool.{true, false}
-use mathlib.Core.List.{[], _∷_}
-use Rattle·patterns.specs.Pattern.{patternFree}
-use Rattle·patterns.specs.Walk.{walk}
-use Rattle·patterns.specs.Stream.{bridge, streamOf, joined, turned}
-use Rattle·listing.specs.Listing.{allWords, listed, countOf, before, indexIn, wordOf}
-use Rattle·code.specs.Code.{published, legal, N, index, word}
-use Rattle·code.specs.Formulas.{countsDownFrom, countByRecursion, weightedFrom, indexByWeights}
-use Rattle·code.specs.Messages.{messageLength}
+use Rattle.std.specs.Prelude.{◌≡◌, true, false, [], ◌∷◌, refl}
+use Rattle.patterns.specs.Pattern.{pattern_free}
+use Rattle.patterns.specs.Walk.{walk}
+use Rattle.patterns.specs.Stream.{bridge, stream_of, joined, turned}
+use Rattle.listing.specs.Listing.{all_words, listed, count_of, before, index_in, word_of}
+use Rattle.code.specs.Code.{published, legal, N, index, word}
+use Rattle.code.specs.Formulas.{counts_down_from, count_by_recursion, weighted_from, index_by_weights}
+use Rattle.code.specs.Messages.{message_length}
 """
 
 OPENED = (
-    "patternFree walk bridge streamOf joined allWords listed countOf before indexIn wordOf legal N index word "
-    "countsDownFrom countByRecursion weightedFrom messageLength"
+    "pattern_free walk bridge stream_of joined all_words listed count_of before index_in word_of legal N index word "
+    "counts_down_from count_by_recursion weighted_from message_length"
 )
 
 
@@ -73,11 +71,11 @@ def claims_of_codes(draw):
             continue
         found, of = words(p), levels_and_reach(p)
         yield f"N {of} {p.m} ≡ {len(found)}"
-        yield f"countByRecursion {of} {p.m} ≡ {len(found)}"
-        yield f"messageLength {of} {p.m} ≡ {message_length(len(found))}"
+        yield f"count_by_recursion {of} {p.m} ≡ {len(found)}"
+        yield f"message_length {of} {p.m} ≡ {message_length(len(found))}"
         for i in draw.sample(range(len(found)), min(3, len(found))):
             yield f"index {of} {shown(found[i])} ≡ {i}"
-            yield f"indexByWeights {of} {shown(found[i])} ≡ {i}"
+            yield f"index_by_weights {of} {shown(found[i])} ≡ {i}"
             yield f"word {of} {p.m} {i} ≡ {shown(found[i])}"
 
 
@@ -93,7 +91,7 @@ def claims_of_cells(draw):
         parts = [[draw.choice((0, top)) for _ in range(length)] for _ in range(draw.randrange(0, 5))]
         stream = bridged(parts, p)
         listed = "(" + " ∷ ".join([shown(part) for part in parts] + ["[]"]) + ")"
-        yield f"streamOf (published {of}) {listed} ≡ {shown(stream)}"
+        yield f"stream_of (published {of}) {listed} ≡ {shown(stream)}"
         yield f"joined (published {of}) {shown(stream)} {shown(cells)} ≡ {shown(bridged([stream, cells], p))}"
         yield f"turned {shown(stream)} ≡ {shown(stream[::-1])}"
 
@@ -101,4 +99,4 @@ def claims_of_cells(draw):
 print(HEADER)
 draw = random.Random(1)
 for number, claim in enumerate(itertools.chain(claims_of_codes(draw), claims_of_cells(draw))):
-    print(f"claim-{number} : {claim}\nunfolding {OPENED}\nclaim-{number} = refl\n")
+    print(f"claim_{number} : {claim}\nunfolding {OPENED}\nclaim_{number} = refl\n")
