@@ -40,7 +40,7 @@ fn link(directory: PathBuf) {
     println!("cargo::rerun-if-changed={}", archive.display());
     if !archive.is_file() {
         println!(
-            "cargo::error={} is not there: make it with `rt staticlib remizutogya` at the root of the repository.",
+            "cargo::error={} is not there: make it with `make target/staticlib/libremizutogya.a` at the root of the repository.",
             archive.display()
         );
         return;
