@@ -10,7 +10,8 @@ use Rattle.patterns.specs.Stream.{joined, turned}
 use Rattle.profiles.specs.Profiles.{patterns_of, stream_length}
 use Rattle.streams.specs.Streams.{Stream}
 use Rattle.streams.specs.FitLaws.{both_fit_not_refused, fits_not_refused}
-use Rattle.streams.specs.AcceptedLaws.{stream_exact, stream_accepted}
+use Rattle.streams.specs.AcceptedLaws.{stream_exact}
+use Rattle.streams.proofs.AcceptedLaws.{stream_accepted}
 use Rattle.streams.specs.JoinedLaws.{joined_stream, stream_fits, both_fit}
 use Rattle.join_streams.specs.Joining.{join_refusal, joining_streams, turn_refusal, turning_stream}
 use Rattle.demands.specs.Outcomes.{done_with}

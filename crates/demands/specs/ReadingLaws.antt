@@ -14,8 +14,10 @@ use Rattle.bits.specs.Bits.{bytes_for, packed, bits_of_messages}
 use Rattle.bits.specs.RoundTrip.{length-bits_of_messages}
 use Rattle.streams.specs.Streams.{Stream, words_in, words_of, stream_refusal}
 use Rattle.streams.specs.FitLaws.{not_refused_fits, fits_not_refused}
-use Rattle.streams.specs.EachLaws.{each_implies, each_word, every_word, each_done, throughout_done}
-use Rattle.streams.specs.AcceptedLaws.{stream_count, words_found, stream_accepted, accepted_stream}
+use Rattle.streams.specs.EachLaws.{each_implies, each_word, every_word}
+use Rattle.streams.proofs.EachLaws.{each_done, throughout_done}
+use Rattle.streams.specs.AcceptedLaws.{stream_count, words_found}
+use Rattle.streams.proofs.AcceptedLaws.{stream_accepted, accepted_stream}
 use Rattle.streams.specs.JoinedLaws.{stream_fits}
 use Rattle.read_stream.specs.Reading.{silent_first, silence_refusal, bits_in, read_refusal, bits_read, reading_stream}
 use Rattle.demands.specs.Outcomes.{Done, done_with, carries_message, message_carried}

@@ -12,7 +12,7 @@ use Rattle.patterns.specs.Stream.{joined, turned}
 use Rattle.profiles.specs.Profiles.{patterns_of}
 use Rattle.streams.specs.Streams.{both_fit_refusal, stream_refusal}
 use Rattle.streams.specs.FitLaws.{Fits, not_refused_both_fit, few_cells}
-use Rattle.streams.specs.PartLaws.{stream_place}
+use Rattle.streams.proofs.PartLaws.{stream_place}
 use Rattle.join_streams.specs.JoinedLaws.{cells_between, between_most}
 use Rattle.join_streams.specs.Joining.{join_refusal, joining_streams, turn_refusal, turning_stream}
 

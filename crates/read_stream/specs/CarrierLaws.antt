@@ -12,8 +12,10 @@ use Rattle.code.specs.Laws.{zeros_only}
 use Rattle.profiles.specs.Profiles.{is_word, LegalFor, index_for}
 use Rattle.streams.specs.Streams.{words_in, stream_refusal}
 use Rattle.streams.specs.FitLaws.{Fits}
-use Rattle.streams.specs.EachLaws.{each_implies, each_of_both, each_word, each_done}
-use Rattle.streams.specs.AcceptedLaws.{word_legal, accepted_stream}
+use Rattle.streams.specs.EachLaws.{each_implies, each_of_both, each_word}
+use Rattle.streams.proofs.EachLaws.{each_done}
+use Rattle.streams.specs.AcceptedLaws.{word_legal}
+use Rattle.streams.proofs.AcceptedLaws.{accepted_stream}
 use Rattle.read_stream.specs.Reading.{silent_refusal, silent_first, silence_refusal}
 use Rattle.read_stream.specs.WordLaws.{EachWord}
 

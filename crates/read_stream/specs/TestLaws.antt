@@ -7,7 +7,8 @@ use Rattle.replies.specs.Replies.{done, moved_by, lowest}
 use Rattle.replies.specs.Ranges.{InRange}
 use Rattle.profiles.specs.Profiles.{stride, LegalFor}
 use Rattle.streams.specs.Streams.{words_in, throughout}
-use Rattle.streams.specs.PartLaws.{throughout_none, throughout_last, throughout_step}
+use Rattle.streams.specs.PartLaws.{throughout_none}
+use Rattle.streams.proofs.PartLaws.{throughout_last, throughout_step}
 use Rattle.read_stream.specs.Reading.{silent_refusal, silent_first}
 use Rattle.read_stream.specs.LimitLaws.{Limits}
 use Rattle.read_stream.specs.SilentLaws.{silent_place}

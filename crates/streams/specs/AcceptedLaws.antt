@@ -1,4 +1,4 @@
--- A stream is accepted exactly if it is legal words and right bridges.
+-- The parts of a stream, and the words and bridges of which it is made.
 use Rattle.std.specs.Prelude.{◌≡◌, Bool, true, false, cond, not, ◌&&◌, List, [], ◌∷◌, ◌++◌, ℕ, zero, suc, ◌+◌, ◌-◌, ◌≤◌, ◌<◌, ltb, eqb, take, drop, get_or, replicate}
 use Rattle.std.proofs.Math.Path.{refl}
 use Rattle.std.proofs.Common.{sym, ap, ◌∙◌, arith, take-append-drop, length-take, length-drop, take_all, length-take-le, take_at, drop_at, drop-drop, take-add, ext_get_or, lt-ltb, eqb-true, eq-eqb}
@@ -6,7 +6,7 @@ use Rattle.std.proofs.Math.Bool.{and-eq-true_iff, and-true}
 use Rattle.std.proofs.Math.ListN.{length, length-replicate}
 use Rattle.std.proofs.lemmas.Bool.{not-false}
 use Rattle.replies.specs.declared.Profile.{Profile}
-use Rattle.replies.specs.Replies.{done, or_else}
+use Rattle.replies.specs.Replies.{or_else}
 use Rattle.replies.specs.ReplyLaws.{both_done, none_refused, holds_nowhere}
 use Rattle.replies.specs.LowestLaws.{moved_of_done, moved_done}
 use Rattle.replies.specs.Ranges.{InRange}
@@ -18,18 +18,17 @@ use Rattle.patterns.specs.Stream.{bridge, first_cell, last_cell, has_length, str
 use Rattle.patterns.specs.StreamLaws.{stream-length}
 use Rattle.profiles.specs.Profiles.{patterns_of, is_word, stride, stream_length, is_legal, LegalFor}
 use Rattle.cells.specs.CellLaws.{cells_below, below_not_refused, cells_legal, legal_not_refused}
-use Rattle.streams.specs.Streams.{Stream, words_in, first_words, words_of, bridge_in, right_bridge, bridge_refusal, part_refusal, stream_refusal}
+use Rattle.streams.specs.Streams.{Stream, words_in, first_words, words_of, bridge_in, right_bridge, bridge_refusal, part_refusal}
 use Rattle.streams.specs.FitLaws.{length_step, words_of-length}
-use Rattle.streams.specs.EachLaws.{each_implies, each_done, throughout_done}
 use Rattle.streams.specs.FromWords.{FromEach}
 
 -- What 10, 11, 13 ask of the part from a word on.
-record RightPart (p : Profile) (part : List ℕ) : Type 0 where
+pub record RightPart (p : Profile) (part : List ℕ) : Type 0 where
   levelled : all_below p.q (take (stride p) part) ≡ true
   passes : is_legal p (take p.m part) ≡ true
   bridged : (i : ℕ) → i < length (bridge_in p part) → get_or (bridge_in p part) i 0 ≡ get_or (right_bridge p part) i 0
 
-part_right : (p : Profile) (part : List ℕ) → (part_refusal p part).number ≡ 0 → RightPart p part
+pub part_right : (p : Profile) (part : List ℕ) → (part_refusal p part).number ≡ 0 → RightPart p part
 unfolding part_refusal bridge_refusal
 part_right p part e =
     let first = both_done _ _ e in
@@ -41,7 +40,7 @@ part_right p part e =
       bridged = λ i l. eqb-true _ _ (not-false _ (nowhere i (omega arith) l));
     }
 
-right_done : (p : Profile) (part : List ℕ) → RightPart p part → (part_refusal p part).number ≡ 0
+pub right_done : (p : Profile) (part : List ℕ) → RightPart p part → (part_refusal p part).number ≡ 0
 unfolding part_refusal bridge_refusal or_else
 right_done p part r =
     let wrong : ℕ → Bool = λ i. not (eqb (get_or (bridge_in p part) i 0) (get_or (right_bridge p part) i 0)) in
@@ -71,7 +70,7 @@ three_parts : (m x : ℕ) (l : List ℕ) → take m l ++ (take x (drop m l) ++ d
 three_parts m x l = rw (← (drop-drop x m l), take-append-drop, take-append-drop)
 
 -- Right parts from each of n words on make a stream of n words.
-parts_make_stream : (p : Profile) → InRange p → (n : ℕ) (part : List ℕ) → length part ≡ stream_length p n → FromEach p (RightPart p) n part
+pub parts_make_stream : (p : Profile) → InRange p → (n : ℕ) (part : List ℕ) → length part ≡ stream_length p n → FromEach p (RightPart p) n part
     → Stream p (first_words p n part) part
 unfolding first_words stream_of
 parts_make_stream p range zero [] exact each = record { legal = refl; bridged = refl }
@@ -161,11 +160,11 @@ unfolding first_words
 first_word p n part = refl
 
 -- The stream of these words is right from each of them on, and they are found in it again.
-record Taken (p : Profile) (words : List (List ℕ)) : Type 0 where
-  parts : FromEach p (RightPart p) (length words) (stream_of (patterns_of p) words)
-  found : first_words p (length words) (stream_of (patterns_of p) words) ≡ words
+pub record Taken (p : Profile) (words : List (List ℕ)) : Type 0 where
+  pub parts : FromEach p (RightPart p) (length words) (stream_of (patterns_of p) words)
+  pub found : first_words p (length words) (stream_of (patterns_of p) words) ≡ words
 
-stream_taken : (p : Profile) → InRange p → (words : List (List ℕ)) → every (is_word p) words ≡ true → Taken p words
+pub stream_taken : (p : Profile) → InRange p → (words : List (List ℕ)) → every (is_word p) words ≡ true → Taken p words
 stream_taken p range [] h = record { parts = tt; found = unfold first_words in refl }
 stream_taken p range (w ∷ []) h =
     let word = rw and-true at h in
@@ -197,19 +196,3 @@ module _ (p : Profile) (range : InRange p) where
   -- The words of a stream are found again.
   pub words_found : (words : List (List ℕ)) (cells : List ℕ) → Stream p words cells → words_of p cells ≡ words
   words_found words cells s = rw (stream_count words cells s, ← s.bridged) (stream_taken p range words s.legal).found
-
-  -- Of a stream 10, 11, 13 refuse nothing, ..
-  pub stream_accepted : (words : List (List ℕ)) (cells : List ℕ) → Stream p words cells → stream_refusal p cells ≡ done
-  unfolding stream_refusal
-  stream_accepted words cells s =
-      let n = length words in
-      let parts : FromEach p (RightPart p) n cells = rw (← s.bridged) (stream_taken p range words s.legal).parts in
-      rw (stream_count words cells s) (throughout_done p (part_refusal p) n 0 cells (each_implies p (right_done p) n cells parts))
-
-  -- .. and cells of the length of a stream of which they refuse nothing are a stream: its words, with the right bridges.
-  pub accepted_stream : (cells : List ℕ) → length cells ≡ stream_length p (words_in p (length cells)) → (stream_refusal p cells).number ≡ 0
-      → Stream p (words_of p cells) cells
-  unfolding stream_refusal
-  accepted_stream cells exact e =
-      let n = words_in p (length cells) in
-      parts_make_stream p range n cells exact (each_implies p (part_right p) n cells (each_done p (part_refusal p) n 0 cells e))

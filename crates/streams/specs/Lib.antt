@@ -1,14 +1,13 @@
--- Streams and FromWords hold the definitions, Examples the worked examples; the other files hold the laws.
+-- Streams and FromWords hold the definitions; the other files hold laws. Those that rest on the definition of a test throughout a stream, and the
+-- worked examples, stand in proofs/.
 pub mod Streams
 pub mod FromWords
-pub mod Examples
 pub mod FitLaws
 pub mod UnfitLaws
 pub mod PartLaws
 pub mod BridgeLaws
 pub mod BesideLaws
 pub mod EachLaws
-pub mod LowestFirst
 pub mod OrderLaws
 pub mod AcceptedLaws
 pub mod JoinedLaws

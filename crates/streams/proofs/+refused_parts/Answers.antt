@@ -2,7 +2,8 @@
 use Rattle.std.proofs.Common.{sym, ◌∙◌, ◌<◌, arith, length, length-drop}
 use Rattle.profiles.specs.Profiles.{stride}
 use Rattle.streams.specs.FitLaws.{rest_of}
-use Rattle.streams.specs.PartLaws.{handed_on, throughout_none, throughout_last, throughout_step, rest_exact, part_place}
+use Rattle.streams.specs.PartLaws.{handed_on, throughout_none, rest_exact, part_place}
+use Rattle.streams.proofs.PartLaws.{throughout_last, throughout_step}
 use Rattle.streams.proofs.+refused_parts.Goals as goal
 
 pub returns-then-part-eq0 : goal.returns-then-part-eq0

@@ -1,6 +1,6 @@
 -- `streams::in_order` meets its contract: a run that is refused neither 10 nor 11, and right bridges.
 use mathlib.Core.Bool.{false≢true}
-use Rattle.streams.specs.OrderLaws.{in_order}
+use Rattle.streams.proofs.OrderLaws.{in_order}
 use Rattle.streams.proofs.in_order.Goals as goal
 
 pub returns-then-run-ne-DONE : goal.returns-then-run-ne-DONE

@@ -7,7 +7,7 @@ use Rattle.replies.specs.declared.Profile.{Profile}
 use Rattle.replies.specs.Replies.{done, is_done, refused, moved_by, lowest}
 use Rattle.profiles.specs.Profiles.{stride}
 use Rattle.streams.specs.Streams.{throughout}
-use Rattle.streams.specs.EachLaws.{each_done}
+use Rattle.streams.proofs.EachLaws.{each_done}
 use Rattle.streams.specs.FromWords.{FromEach, part_from, LowestFirst}
 
 part_further : (p : Profile) (k : ℕ) (cells : List ℕ) → part_from p k (drop (stride p) cells) ≡ part_from p (suc k) cells
