@@ -4,7 +4,6 @@ use Rattle.limbs.specs.Limbs.{limbs_of}
 use Rattle.replies.specs.declared.Reply.{Reply}
 use Rattle.replies.specs.declared.Profile.{Profile}
 use Rattle.replies.specs.Replies.{done, is_done, refused_if, or_else, profile_refusal}
-use Rattle.code.specs.Code.{index}
 use Rattle.profiles.specs.Profiles.{index_for, patterns_of}
 use Rattle.cells.specs.Finding.{cells_refusal}
 use Rattle.tables.specs.Tables.{table_refusal}
