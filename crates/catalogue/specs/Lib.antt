@@ -1,4 +1,4 @@
--- Catalogue and Rating hold the definitions, Examples the worked examples; the other files hold the laws.
+-- Catalogue, Rating and RowsRight hold the definitions, Examples the worked examples; the other files hold the laws.
 pub mod Catalogue
 pub mod Rating
 pub mod Examples

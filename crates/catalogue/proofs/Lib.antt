@@ -1,0 +1,2 @@
+-- The laws of the list: each of the forty rows is right.
+pub mod RowsRight
