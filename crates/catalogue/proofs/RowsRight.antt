@@ -8,9 +8,9 @@ use Rattle.replies.specs.ReplyLaws.{profile_in_range}
 use Rattle.listing.specs.Every.{every}
 use Rattle.code.specs.Code.{N}
 use Rattle.code.specs.Formulas.{counts_down_from, count_by_recursion}
-use Rattle.code.specs.Messages.{words_kept_out, message_length}
-use Rattle.code.specs.MessageLaws.{Largest, length_is_largest}
-use Rattle.code.specs.Theorem1.{recursion_counts}
+use Rattle.code.specs.Messages.{words_kept_out, message_length, Largest}
+use Rattle.code.proofs.MessageLaws.{length_is_largest}
+use Rattle.code.proofs.Theorem1.{recursion_counts}
 use Rattle.messages.specs.HighestBit.{one_largest}
 use Rattle.catalogue.specs.declared.Published.{Published}
 use Rattle.catalogue.specs.Catalogue.{published_rows, row_at, publishing}

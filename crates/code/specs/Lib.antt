@@ -1,11 +1,6 @@
--- Code, Formulas and Messages hold the definitions, Examples the worked examples; the other files hold the laws.
+-- Code, Formulas, Messages and Stretches hold the definitions, Examples the worked examples; the laws stand in proofs/.
 pub mod Code
 pub mod Formulas
 pub mod Messages
 pub mod Examples
 pub mod Stretches
-pub mod Theorem1
-pub mod Theorem2
-pub mod Sizes
-pub mod MessageLaws
-pub mod Laws

@@ -10,7 +10,7 @@ use Rattle.replies.specs.declared.Profile.{Profile}
 use Rattle.replies.specs.Replies.{or_else, writing_counted}
 use Rattle.replies.specs.ReplyLaws.{range_not_refused, room_enough}
 use Rattle.replies.specs.Ranges.{InRange}
-use Rattle.code.specs.Laws.{one_word_of_index}
+use Rattle.code.proofs.Laws.{one_word_of_index}
 use Rattle.profiles.specs.Profiles.{word_count, word_for}
 use Rattle.tables.specs.Tables.{table_length, Belongs, building}
 use Rattle.tables.specs.RowLaws.{built_belongs}

@@ -8,7 +8,7 @@ use Rattle.listing.specs.Same.{same}
 use Rattle.listing.specs.Listing.{all_words, listed, count_of, word_of}
 use Rattle.code.specs.Code.{legal, N, word}
 use Rattle.code.specs.Formulas.{counts_down_from, count_by_recursion}
-use Rattle.code.specs.Theorem1.{recursion_counts}
+use Rattle.code.proofs.Theorem1.{recursion_counts}
 use Rattle.code.specs.Messages.{message_length}
 use Rattle.text.specs.Text.{bytes, decimal, levels_text}
 use Rattle.text.specs.Line.{profile_text, number_in, behind_number, profile_in, is_line_of}

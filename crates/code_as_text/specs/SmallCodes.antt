@@ -8,9 +8,9 @@ use Rattle.listing.specs.Listing.{levels_from}
 use Rattle.listing.specs.EachLevel.{each_level}
 use Rattle.code.specs.Code.{N, word}
 use Rattle.code.specs.Formulas.{counts_down_from, count_by_recursion}
-use Rattle.code.specs.Theorem1.{recursion_counts}
-use Rattle.code.specs.Sizes.{counts_rise}
-use Rattle.code.specs.Laws.{one_word_of_index}
+use Rattle.code.proofs.Theorem1.{recursion_counts}
+use Rattle.code.proofs.Sizes.{counts_rise}
+use Rattle.code.proofs.Laws.{one_word_of_index}
 use Rattle.profiles.specs.Profiles.{word_count, count_for, word_for}
 use Rattle.text.specs.Text.{levels_text}
 use Rattle.text.specs.LevelsLaws.{length_levels}

@@ -7,7 +7,7 @@ use Rattle.messages.specs.LengthLaws.{words_carry}
 use Rattle.replies.specs.declared.Reply.{Reply}
 use Rattle.replies.specs.declared.Profile.{Profile}
 use Rattle.replies.specs.Replies.{is_done}
-use Rattle.code.specs.MessageLaws.{length_is_largest}
+use Rattle.code.proofs.MessageLaws.{length_is_largest}
 use Rattle.profiles.specs.Profiles.{word_count, length_of}
 use Rattle.code_as_text.specs.Printed.{stated_length, last_carrying}
 

@@ -17,7 +17,7 @@ use Rattle.numbers.specs.StepLaws.{message_of_index}
 use Rattle.listing.specs.Every.{every}
 use Rattle.listing.specs.EveryLaws.{every-replicate, every_equal}
 use Rattle.code.specs.Code.{index}
-use Rattle.code.specs.Laws.{one_word_of_index, word_of_index_of_word, zeros_index, zeros_only, tops_index}
+use Rattle.code.proofs.Laws.{one_word_of_index, word_of_index_of_word, zeros_index, zeros_only, tops_index}
 use Rattle.profiles.specs.Profiles.{is_word, length_of, LegalFor, index_for}
 use Rattle.streams.specs.AcceptedLaws.{word_legal}
 use Rattle.streams.specs.JoinedLaws.{legal_word}

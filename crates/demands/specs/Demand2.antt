@@ -3,7 +3,7 @@
 use Rattle.std.specs.Prelude.{◌≡◌, List, ℕ, ◌≤◌, length, take, drop}
 use Rattle.std.proofs.Common.{sym}
 use Rattle.replies.specs.declared.Profile.{Profile}
-use Rattle.code.specs.Laws.{one_word_of_index}
+use Rattle.code.proofs.Laws.{one_word_of_index}
 use Rattle.bits.specs.Bits.{bytes_for, packed, AllBytes}
 use Rattle.streams.specs.AcceptedLaws.{stream_exact}
 use Rattle.write_stream.specs.Writing.{stream_written, writing_stream}

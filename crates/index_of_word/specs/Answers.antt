@@ -11,7 +11,7 @@ use Rattle.replies.specs.declared.Profile.{Profile}
 use Rattle.replies.specs.Replies.{done, refused_if, profile_refusal}
 use Rattle.replies.specs.ReplyLaws.{test_failed, both_done, profile_in_range, decides, leaves}
 use Rattle.replies.specs.Ranges.{InRange}
-use Rattle.listing.specs.Order.{index_below_count}
+use Rattle.listing.proofs.Order.{index_below_count}
 use Rattle.code.specs.Code.{N, index}
 use Rattle.profiles.specs.Profiles.{is_legal, LegalFor, word_count, index_for, patterns_of}
 use Rattle.cells.specs.Finding.{cells_refusal}

@@ -10,10 +10,11 @@ use native.Mathlib.Omega.{arith}
 use Rattle.patterns.specs.Walk.{walk, top_may_stand}
 use Rattle.listing.specs.Listing.{index_in, behind, all_below}
 use Rattle.listing.specs.Sums.{sum_const}
-use Rattle.listing.specs.FirstCell.{index_by_first, index_first}
-use Rattle.listing.specs.Order.{nothing_before_nil, first_below, rest_below}
+use Rattle.listing.proofs.FirstCell.{index_by_first, index_first}
+use Rattle.listing.proofs.Order.{nothing_before_nil, first_below, rest_below}
 use Rattle.code.specs.Code.{below_top, index}
-use Rattle.code.specs.Stretches.{following, following_low, following_guarded, legal_walks, walk_low, walk_top}
+use Rattle.code.specs.Stretches.{following}
+use Rattle.code.proofs.Stretches.{following_low, following_guarded, legal_walks, walk_low, walk_top}
 
 -- How many words, of the levels up to t, may follow where the guard is g and stand before w.
 unfoldable pub index_behind : ℕ → ℕ → ℕ → List ℕ → ℕ

@@ -4,7 +4,7 @@ use Rattle.std.proofs.Common.{le_refl, le_trans, mul-le-mul, pow-suc, zero-add, 
 use Rattle.std.proofs.Math.Nat.{min-le_left, pow-zero, sub-zero, sub_self}
 use Rattle.std.proofs.Math.Arith.{digits_lt}
 use Rattle.listing.specs.Listing.{all_below}
-use Rattle.listing.specs.Order.{first_below, rest_below}
+use Rattle.listing.proofs.Order.{first_below, rest_below}
 use Rattle.tables.specs.PowerLaws.{power_within}
 use Rattle.index_of_word.specs.IndexBehind.{digits, guarded_cells, guarded_factor}
 

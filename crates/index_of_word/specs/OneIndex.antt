@@ -10,7 +10,7 @@ use Rattle.limbs.specs.ValueLaws.{value-limbs_of_below}
 use Rattle.replies.specs.declared.Profile.{Profile}
 use Rattle.replies.specs.Replies.{done, is_done, or_else, profile_refusal}
 use Rattle.replies.specs.ReplyLaws.{profile_in_range}
-use Rattle.code.specs.Laws.{index_below-N}
+use Rattle.code.proofs.Laws.{index_below-N}
 use Rattle.profiles.specs.Profiles.{LegalFor, index_for}
 use Rattle.cells.specs.Finding.{cells_refusal}
 use Rattle.cells.specs.CellLaws.{below_not_refused, legal_not_refused}

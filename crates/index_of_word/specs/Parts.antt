@@ -6,11 +6,12 @@ use Rattle.std.proofs.Math.Nat.{sub_self}
 use Rattle.std.proofs.Math.Seq.{drop-length}
 use Rattle.std.proofs.lemmas.Bool.{lt-leb}
 use Rattle.patterns.specs.Walk.{walk, top_may_stand}
-use Rattle.patterns.specs.WalkLaws.{top_may_stand_fresh}
+use Rattle.patterns.proofs.WalkLaws.{top_may_stand_fresh}
 use Rattle.listing.specs.Listing.{all_below}
-use Rattle.listing.specs.Order.{rest_below}
+use Rattle.listing.proofs.Order.{rest_below}
 use Rattle.code.specs.Code.{below_top}
-use Rattle.code.specs.Stretches.{following, following_none, following_guarded, following_weight, walk_low, walk_top}
+use Rattle.code.specs.Stretches.{following}
+use Rattle.code.proofs.Stretches.{following_none, following_guarded, following_weight, walk_low, walk_top}
 use Rattle.index_of_word.specs.IndexBehind.{index_behind, digits, guarded_cells, guarded_row, guarded_factor, index_behind_none, index_behind_low, index_behind_top}
 use Rattle.index_of_word.specs.IndexBehind.{first_low, guarded_low, walk_past_low, walk_after, index_behind_after, guarded_levels}
 

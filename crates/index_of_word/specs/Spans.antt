@@ -4,7 +4,7 @@ use Rattle.std.proofs.Common.{le_refl, le_trans, lt_of_le_of_lt, lt_of_lt_of_le,
 use Rattle.std.proofs.Math.Nat.{one-le-pow, pow-zero, pow-le-pow_left, pow-le-pow_right}
 use Rattle.limbs.specs.Limbs.{base}
 use Rattle.code.specs.Code.{N}
-use Rattle.code.specs.Sizes.{count_within_power}
+use Rattle.code.proofs.Sizes.{count_within_power}
 use Rattle.replies.specs.Ranges.{Between}
 
 -- s rows on, a row takes at most one limb more.

@@ -5,7 +5,8 @@ use Rattle.std.proofs.lemmas.List.{length-replicate}
 use Rattle.limbs.specs.Limbs.{base, number_at, holding}
 use Rattle.combining.specs.Combining.{combined, Combinable}
 use Rattle.listing.specs.Listing.{all_below}
-use Rattle.code.specs.Stretches.{following, following_legal, legal_walks}
+use Rattle.code.specs.Stretches.{following}
+use Rattle.code.proofs.Stretches.{following_legal, legal_walks}
 use Rattle.replies.specs.declared.Profile.{Profile}
 use Rattle.replies.specs.Ranges.{Between}
 use Rattle.profiles.specs.Profiles.{is_legal, count_for, index_for}

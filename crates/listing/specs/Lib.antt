@@ -1,13 +1,10 @@
--- Every, Same and Listing hold the definitions, Examples the worked examples; the other files hold the laws.
+-- Every, Same, Listing and Inverse hold the definitions, Examples the worked examples; the other files hold laws, and proofs/ the rest of them.
 pub mod Every
 pub mod Same
 pub mod Listing
 pub mod Examples
 pub mod Sums
-pub mod FirstCell
-pub mod Order
 pub mod Inverse
-pub mod Limits
 pub mod EachLevel
 pub mod EveryLaws
 pub mod SameLaws

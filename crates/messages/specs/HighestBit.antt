@@ -8,7 +8,7 @@ use Rattle.std.proofs.lemmas.Nat.{leading_top}
 use Rattle.limbs.specs.Limbs.{base, number_at, used, used_with, AllLimbs}
 use Rattle.limbs.specs.UsedLaws.{used-length, number_at_used, number_at_below_used}
 use Rattle.limbs.specs.ValueLaws.{number_at_more, number_at_below, power_above}
-use Rattle.code.specs.MessageLaws.{Largest}
+use Rattle.code.specs.Messages.{Largest}
 
 largest_within : {n s t : ℕ} → Largest n s → Largest n t → s ≤ t
 largest_within {n} {s} {t} a b =

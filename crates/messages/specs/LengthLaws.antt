@@ -10,9 +10,9 @@ use Rattle.messages.specs.HighestBit.{one_largest}
 use Rattle.replies.specs.declared.Profile.{Profile}
 use Rattle.replies.specs.Replies.{done, refused, refused_if}
 use Rattle.replies.specs.Ranges.{InRange}
-use Rattle.code.specs.Messages.{words_kept_out}
-use Rattle.code.specs.MessageLaws.{Largest, length_is_largest, length_positive, length_zero}
-use Rattle.code.specs.Sizes.{count_fits}
+use Rattle.code.specs.Messages.{words_kept_out, Largest}
+use Rattle.code.proofs.MessageLaws.{length_is_largest, length_positive, length_zero}
+use Rattle.code.proofs.Sizes.{count_fits}
 use Rattle.profiles.specs.Profiles.{word_count, length_of}
 
 -- Number 4 for m = 1 with q at most 3.

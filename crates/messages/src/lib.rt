@@ -5,7 +5,7 @@
 ghost use Rattle.std.specs.Prelude.{◌≡◌, ◌≤◌, ◌<◌, length};
 ghost use Rattle.limbs.specs.Limbs.{number_at};
 ghost use Rattle.replies.specs.Ranges.{InRange};
-ghost use Rattle.code.specs.MessageLaws.{Largest};
+ghost use Rattle.code.specs.Messages.{Largest};
 ghost use Rattle.profiles.specs.Profiles.{length_of};
 ghost use Rattle.messages.specs.Carrying.{message_refusal, carrying_refusal, CarriesMessages};
 

@@ -8,7 +8,7 @@ use Rattle.numbers.specs.Step.{first_index}
 use Rattle.listing.specs.Every.{every}
 use Rattle.listing.specs.EveryLaws.{every-replicate}
 use Rattle.code.specs.Code.{LegalWord, index}
-use Rattle.code.specs.Laws.{zeros_only}
+use Rattle.code.proofs.Laws.{zeros_only}
 use Rattle.profiles.specs.Profiles.{is_word, LegalFor, index_for}
 use Rattle.streams.specs.Streams.{words_in, stream_refusal}
 use Rattle.streams.specs.FitLaws.{Fits}

@@ -7,8 +7,8 @@ use Rattle.messages.specs.LengthLaws.{words_carry, length_below}
 use Rattle.replies.specs.declared.Profile.{Profile}
 use Rattle.listing.specs.Listing.{before}
 use Rattle.code.specs.Code.{LegalWord, N, index, word, OneWord}
-use Rattle.code.specs.Laws.{one_word_of_index, index_in_order, lower_index_first}
-use Rattle.code.specs.MessageLaws.{carrying_before_tops}
+use Rattle.code.proofs.Laws.{one_word_of_index, index_in_order, lower_index_first}
+use Rattle.code.proofs.MessageLaws.{carrying_before_tops}
 use Rattle.profiles.specs.Profiles.{word_count, length_of, LegalFor, index_for, word_for}
 use Rattle.read_stream.specs.PowerLimbs.{power_limbs, bit_inside, power_held}
 

@@ -9,7 +9,7 @@ use Rattle.messages.specs.LengthLaws.{words_fit, length_below}
 use Rattle.replies.specs.declared.Profile.{Profile}
 use Rattle.replies.specs.Ranges.{InRange}
 use Rattle.numbers.specs.Step.{message_of}
-use Rattle.code.specs.Laws.{index_below-N}
+use Rattle.code.proofs.Laws.{index_below-N}
 use Rattle.profiles.specs.Profiles.{length_of, stride, stream_length, index_for}
 use Rattle.index_of_word.specs.Answers.{no_limbs, NotRefused, limbs_in_use, indexable, index_whole}
 use Rattle.index_of_word.specs.Whole.{Indexable, with_index}

@@ -4,8 +4,8 @@ use Rattle.std.proofs.Math.Bool.{or-false}
 use Rattle.std.proofs.Common.{le_refl, add-one, drop_of_length-le, drop-cons, eq-eqb, ne_eqb, le-ltb}
 use Rattle.listing.specs.Every.{every}
 use Rattle.listing.specs.Listing.{before}
-use Rattle.listing.specs.Order.{before_nil}
-use Rattle.listing.specs.FirstCell.{before_cons}
+use Rattle.listing.proofs.Order.{before_nil}
+use Rattle.listing.proofs.FirstCell.{before_cons}
 
 module _ (test : ℕ → Bool) (word : List ℕ) where
   -- From a cell that passes on, as from the next on; from one that does not, not all pass; from behind the last, all do.

@@ -9,7 +9,7 @@ use Rattle.replies.specs.declared.Profile.{Profile}
 use Rattle.replies.specs.Replies.{done, or_else}
 use Rattle.listing.specs.Listing.{all_below}
 use Rattle.listing.specs.EveryLaws.{every_append}
-use Rattle.patterns.specs.OccursLaws.{front_free, back_free}
+use Rattle.patterns.proofs.OccursLaws.{front_free, back_free}
 use Rattle.code.specs.Code.{legal}
 use Rattle.profiles.specs.Profiles.{stride, patterns_of}
 use Rattle.cells.specs.CellLaws.{Accepted, cells_accepted, below_not_refused, legal_not_refused}

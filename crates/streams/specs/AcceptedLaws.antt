@@ -15,7 +15,7 @@ use Rattle.listing.specs.Listing.{all_below}
 use Rattle.listing.specs.EveryLaws.{every_append, every_implies, every-replicate}
 use Rattle.patterns.specs.Pattern.{Patterns}
 use Rattle.patterns.specs.Stream.{bridge, first_cell, last_cell, has_length, stream_of}
-use Rattle.patterns.specs.StreamLaws.{stream-length}
+use Rattle.patterns.proofs.StreamLaws.{stream-length}
 use Rattle.profiles.specs.Profiles.{patterns_of, is_word, stride, stream_length, is_legal, LegalFor}
 use Rattle.cells.specs.CellLaws.{cells_below, below_not_refused, cells_legal, legal_not_refused}
 use Rattle.streams.specs.Streams.{Stream, words_in, first_words, words_of, bridge_in, right_bridge, bridge_refusal, part_refusal}

@@ -8,8 +8,8 @@ use Rattle.replies.specs.Ranges.{InRange}
 use Rattle.listing.specs.Every.{every}
 use Rattle.listing.specs.EveryLaws.{every_append, every-reverse, every_implies}
 use Rattle.patterns.specs.Stream.{filled, joined, turned}
-use Rattle.patterns.specs.StreamLaws.{stream_joined, stream_turned}
-use Rattle.code.specs.Laws.{turned_legal, stream_legal}
+use Rattle.patterns.proofs.StreamLaws.{stream_joined, stream_turned}
+use Rattle.code.proofs.Laws.{turned_legal, stream_legal}
 use Rattle.profiles.specs.Profiles.{patterns_of, is_word, is_legal, LegalFor}
 use Rattle.streams.specs.Streams.{Stream, turned_words}
 use Rattle.streams.specs.FitLaws.{Fits, BothFit, length_fits}

@@ -6,8 +6,8 @@ use Rattle.replies.specs.declared.Profile.{Profile}
 use Rattle.replies.specs.Replies.{done, refused, profile_of}
 use Rattle.replies.specs.Ranges.{Between, InRange}
 use Rattle.code.specs.Code.{N}
-use Rattle.code.specs.Stretches.{following_none}
-use Rattle.code.specs.Theorem1.{count_of_no_cells, count_of_one_cell}
+use Rattle.code.proofs.Stretches.{following_none}
+use Rattle.code.proofs.Theorem1.{count_of_no_cells, count_of_one_cell}
 use Rattle.profiles.specs.Profiles.{count_for}
 use Rattle.tables.specs.Tables.{table_of, Belongs, table_refusal}
 use Rattle.tables.specs.TableLaws.{table_wrong, table_right}

@@ -9,7 +9,7 @@ use Rattle.listing.specs.EachLevel.{each_level}
 use Rattle.listing.specs.SameLaws.{same_equal}
 use Rattle.code.specs.Code.{N}
 use Rattle.code.specs.Formulas.{with_next, counts_down_from, count_by_recursion}
-use Rattle.code.specs.Theorem1.{recursion_counts}
+use Rattle.code.proofs.Theorem1.{recursion_counts}
 use Rattle.replies.specs.Replies.{done, refused_if, or_else, outside_refusal, profile_refusal, is_done, length_refusal}
 use Rattle.tables.specs.Rows.{with_row}
 use Rattle.tables.specs.Tables.{handing_out, building, shipped_profile}

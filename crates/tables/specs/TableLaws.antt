@@ -6,7 +6,7 @@ use Rattle.limbs.specs.ValueLaws.{lowest_limbs}
 use Rattle.replies.specs.declared.Profile.{Profile}
 use Rattle.replies.specs.Replies.{done, refused, refused_at_first, or_else}
 use Rattle.replies.specs.ReplyLaws.{both_done, test_failed, holds_nowhere, first_refused, none_refused}
-use Rattle.code.specs.Sizes.{counts_rise}
+use Rattle.code.proofs.Sizes.{counts_rise}
 use Rattle.profiles.specs.Profiles.{count_for}
 use Rattle.tables.specs.Tables.{table_length, row_right, Belongs, table_refusal}
 

@@ -10,7 +10,7 @@ use Rattle.replies.specs.declared.Profile.{Profile}
 use Rattle.replies.specs.declared.Reply.{Reply}
 use Rattle.replies.specs.Replies.{refused_if, writing_counted}
 use Rattle.replies.specs.ReplyLaws.{leaves, room_enough}
-use Rattle.code.specs.Laws.{one_word_of_index, index_below-N}
+use Rattle.code.proofs.Laws.{one_word_of_index, index_below-N}
 use Rattle.profiles.specs.Profiles.{word_count}
 use Rattle.word_of_index.specs.Spelling.{index_refusal, spelling, InOrder, Given, NoWord}
 

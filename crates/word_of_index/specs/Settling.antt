@@ -9,9 +9,10 @@ use Rattle.std.proofs.Math.Nat.{lt-div-mul-add}
 use Rattle.patterns.specs.Walk.{walk, may_stand, guard_after}
 use Rattle.listing.specs.Listing.{Settled, settle, levels_from, levels, count_of, behind, word_of}
 use Rattle.listing.specs.Sums.{sum_const}
-use Rattle.listing.specs.FirstCell.{count_by_first, count_same, count_none}
+use Rattle.listing.proofs.FirstCell.{count_by_first, count_same, count_none}
 use Rattle.code.specs.Code.{below_top}
-use Rattle.code.specs.Stretches.{following, following_low}
+use Rattle.code.specs.Stretches.{following}
+use Rattle.code.proofs.Stretches.{following_low}
 use Rattle.division.specs.Division.{times_in}
 use Rattle.division.specs.DivisionLaws.{times_few, times_inside}
 

@@ -6,7 +6,7 @@ use Rattle.replies.specs.declared.Profile.{Profile}
 use Rattle.limbs.specs.Limbs.{base, number_at, value, limbs_of, holding, AllLimbs, used}
 use Rattle.limbs.specs.ValueLaws.{number_at_more}
 use Rattle.patterns.specs.Walk.{guard_after}
-use Rattle.code.specs.Sizes.{count_positive}
+use Rattle.code.proofs.Sizes.{count_positive}
 use Rattle.code.specs.Stretches.{following}
 use Rattle.division.specs.Division.{times_in, left_over}
 use Rattle.division.specs.DivisionLaws.{times_inside}

@@ -12,7 +12,7 @@ use Rattle.replies.specs.declared.Reply.{Reply}
 use Rattle.replies.specs.declared.Profile.{Profile}
 use Rattle.replies.specs.Replies.{done, Comes}
 use Rattle.replies.specs.ReplyLaws.{test_failed, both_done, profile_in_range, has_room}
-use Rattle.code.specs.Laws.{one_word_of_index}
+use Rattle.code.proofs.Laws.{one_word_of_index}
 use Rattle.tables.specs.Tables.{Belongs}
 use Rattle.tables.specs.TableLaws.{table_belongs}
 use Rattle.replies.specs.WritingLaws.{writing_refused, writing_done}

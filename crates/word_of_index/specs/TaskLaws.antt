@@ -11,8 +11,9 @@ use Rattle.replies.specs.Ranges.{InRange}
 use Rattle.patterns.specs.Walk.{guard_after, walk}
 use Rattle.listing.specs.Listing.{word_of}
 use Rattle.code.specs.Code.{word, published}
-use Rattle.code.specs.Sizes.{counts_rise}
-use Rattle.code.specs.Stretches.{following, legal_walks}
+use Rattle.code.proofs.Sizes.{counts_rise}
+use Rattle.code.specs.Stretches.{following}
+use Rattle.code.proofs.Stretches.{legal_walks}
 use Rattle.tables.specs.Tables.{Belongs}
 use Rattle.tables.specs.TableLaws.{belongs_fewer, row_stands}
 use Rattle.division.specs.Division.{times_in, left_over}

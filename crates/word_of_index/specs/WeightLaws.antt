@@ -6,9 +6,10 @@ use native.Mathlib.Omega.{arith}
 use Rattle.replies.specs.declared.Profile.{Profile}
 use Rattle.patterns.specs.Walk.{guard_after}
 use Rattle.code.specs.Code.{N, published}
-use Rattle.code.specs.Stretches.{following, following_legal, following_most, following_weight}
-use Rattle.code.specs.Sizes.{count_positive}
-use Rattle.code.specs.Theorem1.{count_of_no_cells}
+use Rattle.code.specs.Stretches.{following}
+use Rattle.code.proofs.Stretches.{following_legal, following_most, following_weight}
+use Rattle.code.proofs.Sizes.{count_positive}
+use Rattle.code.proofs.Theorem1.{count_of_no_cells}
 use Rattle.profiles.specs.Profiles.{patterns_of, count_for}
 use Rattle.word_of_index.specs.Tasks.{weight_behind, low_cells}
 

@@ -9,11 +9,11 @@ use Rattle.messages.specs.LengthLaws.{words_fit, length_below}
 use Rattle.numbers.specs.Step.{index_of}
 use Rattle.replies.specs.declared.Profile.{Profile}
 use Rattle.patterns.specs.Stream.{filled, has_length, stream_of}
-use Rattle.patterns.specs.StreamLaws.{stream-length}
+use Rattle.patterns.proofs.StreamLaws.{stream-length}
 use Rattle.listing.specs.Every.{every}
 use Rattle.listing.specs.EveryLaws.{every_implies}
-use Rattle.code.specs.Laws.{one_word_of_index}
-use Rattle.code.specs.MessageLaws.{length_positive, carrying_before_tops}
+use Rattle.code.proofs.Laws.{one_word_of_index}
+use Rattle.code.proofs.MessageLaws.{length_positive, carrying_before_tops}
 use Rattle.profiles.specs.Profiles.{patterns_of, word_count, length_of, stream_length}
 use Rattle.bits.specs.Bits.{number_of, bits_of_bytes, messages_in}
 use Rattle.bits.specs.BitLaws.{drop_bits, number_of-take_below, bits_of_bytes_bits}

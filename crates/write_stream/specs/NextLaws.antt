@@ -6,8 +6,8 @@ use Rattle.std.proofs.Math.Bool.{true, and-eq-true_iff}
 use mathlib.Core.List.{List, [], ◌∷◌, ◌++◌, map-append}
 use Rattle.replies.specs.declared.Profile.{Profile}
 use Rattle.patterns.specs.Stream.{bridge, filled, stream_of, joined}
-use Rattle.patterns.specs.JoinLaws.{joined_empty_left}
-use Rattle.patterns.specs.StreamLaws.{stream_joined}
+use Rattle.patterns.proofs.JoinLaws.{joined_empty_left}
+use Rattle.patterns.proofs.StreamLaws.{stream_joined}
 use Rattle.listing.specs.Every.{every}
 use Rattle.listing.specs.EveryLaws.{every_append}
 use Rattle.profiles.specs.Profiles.{patterns_of, stride, stream_length}

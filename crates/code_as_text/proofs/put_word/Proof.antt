@@ -7,7 +7,7 @@ use native.Mathlib.Omega.{arith}
 use lib.ListN.{length, take, drop}
 use borrow.Author.Rules.{rules}
 use Rattle.code.specs.Code.{word}
-use Rattle.code.specs.Laws.{one_word_of_index}
+use Rattle.code.proofs.Laws.{one_word_of_index}
 use Rattle.word_of_index.specs.SpellingLaws.{whole_index}
 use Rattle.code_as_text.specs.Printed.{word_line}
 use Rattle.code_as_text.specs.CodeLaws.{cells_spelt}

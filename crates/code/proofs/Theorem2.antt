@@ -10,11 +10,12 @@ use Rattle.std.proofs.lemmas.Bool.{eqb-false}
 use Rattle.patterns.specs.Walk.{walk, top_may_stand}
 use Rattle.listing.specs.Listing.{index_in, all_below}
 use Rattle.listing.specs.Sums.{sum_const}
-use Rattle.listing.specs.FirstCell.{index_by_first, index_first}
-use Rattle.listing.specs.Order.{nothing_before_nil, first_below, rest_below}
+use Rattle.listing.proofs.FirstCell.{index_by_first, index_first}
+use Rattle.listing.proofs.Order.{nothing_before_nil, first_below, rest_below}
 use Rattle.code.specs.Code.{below_top, LegalWord, index}
 use Rattle.code.specs.Formulas.{one_further, distance_back, guard_of, weight, weighted_from, index_by_weights}
-use Rattle.code.specs.Stretches.{following, following_low, following_weight, following_legal, legal_walks, walk_low, walk_top}
+use Rattle.code.specs.Stretches.{following}
+use Rattle.code.proofs.Stretches.{following_low, following_weight, following_legal, legal_walks, walk_low, walk_top}
 
 -- The guard of the walk at a place, by the distance k back to the nearest top.
 abbrev guard_at : ℕ → ℕ → ℕ

@@ -6,8 +6,8 @@ use Rattle.std.proofs.Math.Nat.{pow-zero, pow-succ'}
 use Rattle.std.proofs.lemmas.List.{length-replicate}
 use Rattle.listing.specs.Listing.{count_of, listed, all_words, before, index_in, behind, keep_if}
 use Rattle.listing.specs.Sums.{sum_bound}
-use Rattle.listing.specs.FirstCell.{count_by_first, index_by_first, index_first, before_cons}
-use Rattle.listing.specs.Order.{before_nil, nothing_before_nil, count_nil}
+use Rattle.listing.proofs.FirstCell.{count_by_first, index_by_first, index_first, before_cons}
+use Rattle.listing.proofs.Order.{before_nil, nothing_before_nil, count_nil}
 
 nothing_before_zeros : (m : ℕ) (v : List ℕ) → before v (replicate m 0) ≡ false
 nothing_before_zeros zero v = nothing_before_nil v

@@ -3,14 +3,14 @@ use Rattle.std.specs.Prelude.{◌≡◌, true, false, List, reverse, ℕ, zero, 
 use Rattle.std.proofs.Common.{sym, ◌∙◌, le_refl, sub-one, arith, lt-ltb, le-ltb}
 use Rattle.std.proofs.lemmas.List.{length-reverse, length-replicate}
 use Rattle.patterns.specs.Stream.{filled, stream_of}
-use Rattle.patterns.specs.OccursLaws.{turned_free}
-use Rattle.patterns.specs.FreeLaws.{top_run_free, zero_run_free}
-use Rattle.patterns.specs.StreamLaws.{stream_free}
+use Rattle.patterns.proofs.OccursLaws.{turned_free}
+use Rattle.patterns.proofs.FreeLaws.{top_run_free, zero_run_free}
+use Rattle.patterns.proofs.StreamLaws.{stream_free}
 use Rattle.listing.specs.Every.{every}
 use Rattle.listing.specs.Listing.{before}
-use Rattle.listing.specs.Order.{index_keeps_order, index_injective, index_below_count, lower_index_before}
-use Rattle.listing.specs.Inverse.{exactly_one, index_has_word, word_keeps_order}
-use Rattle.listing.specs.Limits.{zeros_first, tops_last}
+use Rattle.listing.proofs.Order.{index_keeps_order, index_injective, index_below_count, lower_index_before}
+use Rattle.listing.proofs.Inverse.{exactly_one, index_has_word, word_keeps_order}
+use Rattle.listing.proofs.Limits.{zeros_first, tops_last}
 use Rattle.listing.specs.EveryLaws.{every-reverse, every-replicate}
 use Rattle.code.specs.Code.{published, legal, LegalWord, N, index, word, OneWord}
 

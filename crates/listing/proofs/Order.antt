@@ -6,7 +6,7 @@ use Rattle.std.proofs.Math.Bool.{and-eq-true_iff}
 use Rattle.std.proofs.Math.Nat.{suc_inj}
 use Rattle.listing.specs.Listing.{Word, count_of, listed, all_words, before, index_in, behind, all_below}
 use Rattle.listing.specs.Sums.{sum_below, sum_mono}
-use Rattle.listing.specs.FirstCell.{count_by_first, before_cons, index_by_first, index_first}
+use Rattle.listing.proofs.FirstCell.{count_by_first, before_cons, index_by_first, index_first}
 
 -- One word has no cells, where it passes.
 pub count_nil : (q : ℕ) (p : List ℕ → Bool) → p [] ≡ true → count_of q p 0 ≡ 1

@@ -12,8 +12,8 @@ use Rattle.listing.specs.Every.{every}
 use Rattle.listing.specs.EveryLaws.{every_append, every-reverse}
 use Rattle.patterns.specs.Pattern.{Patterns, pattern_free}
 use Rattle.patterns.specs.Stream.{bridge, filled, has_length, stream_of, joined, turned}
-use Rattle.patterns.specs.FreeLaws.{joined_free}
-use Rattle.patterns.specs.JoinLaws.{filled_turned, joined_assoc, turned_joined}
+use Rattle.patterns.proofs.FreeLaws.{joined_free}
+use Rattle.patterns.proofs.JoinLaws.{filled_turned, joined_assoc, turned_joined}
 
 every_filled_turned : (words : List (List ℕ)) → every filled (map reverse words) ≡ every filled words
 every_filled_turned [] = refl

@@ -5,14 +5,9 @@ use Rattle.std.proofs.Math.Nat.{pow-zero, pow-succ', two-pow-succ, pow-le-pow_le
 use Rattle.std.proofs.Math.Pow.{pow-lt}
 use Rattle.std.proofs.lemmas.Bool.{lt-leb}
 use Rattle.code.specs.Code.{N}
-use Rattle.code.specs.Messages.{words_kept_out, largest_power, message_length}
-use Rattle.code.specs.Theorem1.{count_of_one_cell}
-use Rattle.code.specs.Sizes.{count_within_power, four_from_two_cells}
-
--- s is the largest number with 2^s at most n.
-pub record Largest (n s : ℕ) : Type 0 where
-  pub fits : 2 ^ s ≤ n
-  pub most : n < 2 ^ suc s
+use Rattle.code.specs.Messages.{Largest, words_kept_out, largest_power, message_length}
+use Rattle.code.proofs.Theorem1.{count_of_one_cell}
+use Rattle.code.proofs.Sizes.{count_within_power, four_from_two_cells}
 
 largest_power_lem : (b n : ℕ) → 0 < n → n < 2 ^ suc b → Largest n (largest_power b n)
 largest_power_lem zero n l h = record { fits = rw pow-zero l; most = h }

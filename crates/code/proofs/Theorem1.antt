@@ -6,7 +6,8 @@ use Rattle.std.proofs.Math.Numerals.{add-two}
 use Rattle.std.proofs.Math.Dec.{leb-suc-suc}
 use Rattle.code.specs.Code.{N}
 use Rattle.code.specs.Formulas.{last_term, next_count, with_next, counts_down_from, count_by_recursion}
-use Rattle.code.specs.Stretches.{following, following_none, following_open, following_fresh, following_weight, following_legal, count_splits, scaled}
+use Rattle.code.specs.Stretches.{following}
+use Rattle.code.proofs.Stretches.{following_none, following_open, following_fresh, following_weight, following_legal, count_splits, scaled}
 
 -- N(0) is 1.
 pub count_of_no_cells : (q x : ℕ) → 0 < q → N q x 0 ≡ 1

@@ -10,7 +10,7 @@ use Rattle.std.proofs.Math.Dec.{eqb}
 use Rattle.patterns.specs.Pattern.{Patterns, pattern_free}
 use Rattle.patterns.specs.Walk.{guard_after, walk, guard_behind}
 use Rattle.patterns.specs.Stream.{bridge, last_cell, joined}
-use Rattle.patterns.specs.WalkLaws.{walk_is-pattern_free, fresh_walk_is-pattern_free, walk-append, top_may_stand_fresh}
+use Rattle.patterns.proofs.WalkLaws.{walk_is-pattern_free, fresh_walk_is-pattern_free, walk-append, top_may_stand_fresh}
 
 module _ (S : Patterns) where
   walk_tops : (n : ℕ) (w : List ℕ) → walk S (suc S.reach) (replicate n S.top ++ w) ≡ walk S (suc S.reach) w
