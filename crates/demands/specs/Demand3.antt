@@ -14,7 +14,6 @@ use Rattle.replies.specs.ReplyLaws.{both_done, profile_in_range}
 use Rattle.replies.specs.Ranges.{InRange, most_words}
 use Rattle.listing.specs.Every.{every}
 use Rattle.listing.specs.EveryLaws.{every_append}
-use Rattle.listing.specs.Same.{same}
 use Rattle.patterns.specs.Stream.{stream_of}
 use Rattle.streams.specs.Streams.{Stream, turned_words}
 use Rattle.streams.specs.JoinedLaws.{length_turned_words, turned_words-append, joined_stream, turned_stream}
