@@ -13,7 +13,7 @@ loop-k-init c = (omega arith, refl)
 pub returns-then-number-k : goal.returns-then-number-k
 returns-then-number-k c =
     limb_differs c.args.number.now c.args.table.now (10 * c.args.i) c.requires.0
-    (λ j. (c.shared_slice_known-1.given j).fits) (λ j. (c.shared_slice_known-in-loop-k-1.given j).fits)
+    (λ j. (c.type_inv.number j).fits) (λ j. (c.type_inv.table j).fits)
     (omega arith) c.if-number-k.true
 
 pub loop-k-preserved : goal.loop-k-preserved
