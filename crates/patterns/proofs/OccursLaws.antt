@@ -9,22 +9,13 @@ use Rattle.std.proofs.lemmas.List.{length-reverse}
 use Rattle.listing.specs.Every.{every}
 use Rattle.listing.specs.EveryLaws.{every-reverse}
 use Rattle.patterns.specs.Pattern.{Patterns, middle_then_top, pattern_of, pattern_up_to, pattern_free}
+use Rattle.patterns.specs.Occurs.{Occurs}
 
 -- Two tests of which each implies the other are equal.
 same_test : (a b : Bool) → (a ≡ true → b ≡ true) → (b ≡ true → a ≡ true) → a ≡ b
 same_test true b f g = sym (f refl)
 same_test false true f g = g refl
 same_test false false f g = refl
-
--- A forbidden pattern among the cells: what is left of it, the cells between its two tops, and what is right of it.
-pub record Occurs (S : Patterns) (w : List ℕ) : Type 0 where
-  pub left : List ℕ
-  pub mids : List ℕ
-  pub right : List ℕ
-  pub splits : w ≡ left ++ (S.top ∷ (mids ++ (S.top ∷ right)))
-  pub in_middle : every S.middle mids ≡ true
-  pub at_least_one : 1 ≤ length mids
-  pub within_reach : length mids ≤ S.reach
 
 module _ (S : Patterns) where
   -- The cells begin with r cells of the middle set and then a top.
