@@ -1,15 +1,16 @@
 -- What is known of a file, and what that tells: whether two are one, whether one is regular, and which bits of its
 -- mode are kept.
-use Rattle.std.specs.Prelude.{Bool, true, false, ◌&&◌, ℕ, ◌/◌, ◌%◌, eqb, ℤ, pos, negsuc}
-use Rattle.libc.specs.declared.types.stat.{stat}
+use Rattle.std.specs.Prelude.{Bool, true, false, ◌&&◌, ℕ, ◌/◌, ◌%◌, ◌==◌, Result, Ok, Err}
+use Rattle.std.specs.declared.io.Error.{Error}
 use Rattle.file_facts.specs.declared.Facts.{Facts}
+use Rattle.file_facts.specs.declared.Stat.{Stat}
 
 -- No file is found, and all else is 0.
 abbrev pub nothing_known : Facts
 nothing_known = record { found = false; device = 0; number = 0; mode = 0; owner = 0; group = 0 }
 
 -- What a struct that the system filled says of its file.
-abbrev pub filled_with : stat → Facts
+abbrev pub filled_with : Stat → Facts
 filled_with s = record {
   found = true;
   device = s.st_dev;
@@ -19,18 +20,23 @@ filled_with s = record {
   group = s.st_gid;
 }
 
--- What is known after the system's answer: nothing where it is below 0.
-abbrev pub known_by : ℤ → stat → Facts
-known_by (pos n) s = filled_with s
-known_by (negsuc n) s = nothing_known
+-- What is known after the system's answer: nothing where it is an error.
+abbrev pub known_by : Result Stat Error → Facts
+known_by (Ok s) = filled_with s
+known_by (Err e) = nothing_known
+
+-- What is known after an answer about a file: nothing where it is an error.
+abbrev pub facts_in : Result Facts Error → Facts
+facts_in (Ok facts) = facts
+facts_in (Err e) = nothing_known
 
 -- Both are found, on one device under one number.
 abbrev pub same_file : Facts → Facts → Bool
-same_file a b = (a.found && b.found) && (eqb a.device b.device && eqb a.number b.number)
+same_file a b = (a.found && b.found) && ((a.device == b.device) && (a.number == b.number))
 
 -- A file is found, and the four bits of its mode above the lowest twelve are 1000, which POSIX has for a regular file.
 abbrev pub is_regular : Facts → Bool
-is_regular a = a.found && eqb (a.mode / 4096 % 16) 8
+is_regular a = a.found && (a.mode / 4096 % 16 == 8)
 
 -- The lowest twelve bits of the mode: who may do what with the file.
 abbrev pub kept_mode : Facts → ℕ

@@ -5,13 +5,10 @@ use Rattle.std.proofs.Math.Bool.{and-eq-true_iff}
 use Rattle.std.proofs.Math.Nat.{sub-zero, suc-sub-suc}
 use Rattle.std.proofs.lemmas.List.{get_or-replicate}
 use Rattle.std.proofs.Math.Seq.{take-length}
-use Rattle.bytes.specs.Bytes.{index_of, slice}
-use Rattle.libc.specs.Io.{Ended}
-use Rattle.file_facts.specs.Names.{is_name, ended_name}
+use Rattle.file_facts.specs.Names.{is_name, first_zero, ended_name, Ended, slice}
 
 -- The part of a list from its start to its end is the list.
 pub slice_whole : (l : List ℕ) → slice 0 (length l) l ≡ l
-unfolding slice
 slice_whole l = take-length l
 
 -- Zeros without some of them are the others.
@@ -28,7 +25,7 @@ name_over_zeros name = rw (take-length, drop_zeros) refl
 -- A name has at most 4095 bytes.
 pub name_short : (name : List ℕ) → is_name name ≡ true → length name < 4096
 name_short name is =
-    let both = (and-eq-true_iff (ltb (length name) 4096) (eqb (index_of 0 name) (length name))).0 is in
+    let both = (and-eq-true_iff (ltb (length name) 4096) (eqb (first_zero name) (length name))).0 is in
     ltb-true (length name) 4096 both.0
 
 -- The last of the 4096 bytes of a name with zeros behind it is 0.

@@ -1,13 +1,26 @@
 // Facts of files: what the system says of a file, and what that tells.
 #![tactic(auto)]
 
-ghost use Rattle.std.specs.Prelude.{true, false, ◌≡◌};
-ghost use Rattle.libc.specs.Io.{Ended};
-ghost use Rattle.file_facts.specs.Facts.{nothing_known, known_by, same_file, is_regular, kept_mode};
-ghost use Rattle.file_facts.specs.Names.{is_name, ended_name};
+ghost use Rattle.std.specs.Prelude.{true, false, ◌≡◌, ◌↔◌, IsErr, IfOk};
+ghost use Rattle.std.specs.Fs.{metadata_mode};
+ghost use Rattle.file_facts.specs.Facts.{nothing_known, known_by, facts_in, same_file, is_regular, kept_mode};
+ghost use Rattle.file_facts.specs.Names.{zero_in, is_name};
 
-use libc::PATH_MAX;
-use libc::types::{stat, timespec};
+use std::fs::{DirBuilder, Metadata, OpenFile};
+use std::io;
+use std::io::ErrorKind;
+use std::os::unix::fs::{DirBuilderExt, MetadataExt};
+use std::rt::Files;
+
+// The bytes of the longest name that the system takes, and the 0 behind it.
+const PATH_MAX: usize = 4096;
+
+// The system's numbers of errors: no such descriptor, a name that it does not take, and one that is too long.
+const EBADF: i32 = 9;
+
+const EINVAL: i32 = 22;
+
+const ENAMETOOLONG: i32 = 36;
 
 // What is known of a file: whether there is one, the device and the number that it has, its mode, owner and group.
 #[derive(Clone, Copy)]
@@ -20,33 +33,26 @@ pub struct Facts {
     pub group: u32,
 }
 
-// The start of time.
-fn no_time() -> timespec {
-    timespec {
-        tv_sec: 0,
-        tv_nsec: 0,
-    }
+// What the system says of a file, under the names that it has for that.
+#[derive(Clone, Copy)]
+struct Stat {
+    st_dev: u64,
+    st_ino: u64,
+    st_mode: u32,
+    st_uid: u32,
+    st_gid: u32,
 }
 
-// A struct for the system to fill.
-fn blank() -> stat {
-    let time = no_time();
-    stat {
-        st_dev: 0,
-        st_ino: 0,
-        st_nlink: 0,
-        st_mode: 0,
-        st_uid: 0,
-        st_gid: 0,
-        __pad: 0,
-        st_rdev: 0,
-        st_size: 0,
-        st_blksize: 0,
-        st_blocks: 0,
-        st_atim: time,
-        st_mtim: time,
-        st_ctim: time,
-        __unused: [0; 3],
+// What of the system's answer tells something here.
+fn stat_of(found: Metadata) -> Stat
+    ensures { result.st_mode ≡ metadata_mode found }
+{
+    Stat {
+        st_dev: found.dev(),
+        st_ino: found.ino(),
+        st_mode: found.mode(),
+        st_uid: found.uid(),
+        st_gid: found.gid(),
     }
 }
 
@@ -64,79 +70,114 @@ pub fn unknown() -> Facts
     }
 }
 
-// What the system filled in, where it answers that it did.
-fn told(answer: i32, s: stat) -> Facts
-    ensures { result ≡ known_by answer s }
+// What the system says, where it answers.
+fn told(answer: io::Result<Stat>) -> io::Result<Facts>
+    ensures facts { facts_in result ≡ known_by answer }
+    ensures error { IsErr result ↔ IsErr answer }
 {
-    if answer < 0 {
-        return unknown();
-    }
-    Facts {
-        found: true,
-        device: s.st_dev,
-        number: s.st_ino,
-        mode: s.st_mode,
-        owner: s.st_uid,
-        group: s.st_gid,
+    match answer {
+        Ok(s) => Ok(Facts {
+            found: true,
+            device: s.st_dev,
+            number: s.st_ino,
+            mode: s.st_mode,
+            owner: s.st_uid,
+            group: s.st_gid,
+        }),
+        Err(error) => Err(error),
     }
 }
 
-// What is known of the open file that a descriptor stands for.
-pub fn of_descriptor(fd: i32) -> Facts {
-    let mut s = blank();
-    let answer = libc::fstat(fd, &mut s);
-    told(answer, s)
+// What is known of an open file.
+pub fn of_file(file: &impl OpenFile) -> io::Result<Facts>
+    ensures { IfOk result (λ facts. facts.found ≡ true) }
+{
+    told(file.metadata().map(stat_of))
 }
 
-// What is known of the file at a path that ends in 0; of a link, the link.
-fn of_path(path: &[u8; PATH_MAX]) -> Facts
-    requires { Ended path.now }
+// The name that the system gives to what a standard stream is open on.
+fn stream_name(fd: i32) -> io::Result<&'static str> {
+    match fd {
+        0 => Ok("/proc/self/fd/0"),
+        1 => Ok("/proc/self/fd/1"),
+        2 => Ok("/proc/self/fd/2"),
+        _ => Err(io::Error::from_raw_os_error(EBADF)),
+    }
+}
+
+// Why a name of a standard stream leads nowhere: the stream is closed, or the system's names of streams cannot
+// be had.
+fn no_stream(rt: &impl Files) -> io::Error {
+    match rt.metadata("/proc/self/fd") {
+        Ok(_) => io::Error::from_raw_os_error(EBADF),
+        Err(error) => error,
+    }
+}
+
+// What is known of the open file that the descriptor of a standard stream stands for.
+pub fn of_descriptor(rt: &impl Files, fd: i32) -> io::Result<Facts>
+    ensures { IfOk result (λ facts. facts.found ≡ true) }
 {
-    let mut s = blank();
-    let answer = libc::lstat(path, &mut s);
-    told(answer, s)
+    let answer = match rt.metadata(stream_name(fd)?) {
+        Err(error) if error.kind() == ErrorKind::NotFound => Err(no_stream(rt)),
+        answer => answer,
+    };
+    told(answer.map(stat_of))
+}
+
+// Where the first 0 of a name stands, if it has one.
+fn zero_in(name: &[u8]) -> Option<usize>
+    ensures { result ≡ zero_in name.now }
+{
+    name.iter().position(|b| *b == 0)
 }
 
 // The system takes a name whole.
 fn is_name(name: &[u8]) -> bool
     ensures { result ≡ is_name name.now }
 {
-    let first_zero = bytes::scan::find(name, 0, name.len(), 0);
+    let first_zero = zero_in(name).unwrap_or(name.len());
     (name.len() < PATH_MAX) & (first_zero == name.len())
 }
 
-// A name with zeros behind it.
-fn ended(name: &[u8]) -> [u8; PATH_MAX]
-    requires { is_name name.now ≡ true }
-    ensures { result ≡ ended_name name.now }
-{
-    let mut path = [0u8; PATH_MAX];
-    bytes::copy(name, &mut path);
-    path
+// Why the system does not take a name whole.
+fn refusal(name: &[u8]) -> io::Error {
+    if name.len() < PATH_MAX {
+        return io::Error::from_raw_os_error(EINVAL);
+    }
+    io::Error::from_raw_os_error(ENAMETOOLONG)
 }
 
-// What is known of the file that has a name; of a link, the link. Where none is found errno says why, and so
-// it does where the system does not take the name: `os` refuses it before it opens anything.
-pub fn of_name(name: &[u8]) -> Facts
-    ensures { is_name name.now ≡ false → result ≡ nothing_known }
+// A name as a path, if it is UTF-8 and the system takes it whole.
+pub fn path(name: &[u8]) -> io::Result<&str>
+    ensures whole { IfOk result (λ path. path.now ≡ name.now) }
+    ensures refused { is_name name.now ≡ false → IsErr result }
 {
     if !is_name(name) {
-        os::open_read(name);
-        return unknown();
+        return Err(refusal(name));
     }
-    let path = ended(name);
-    of_path(&path)
+    match str::from_utf8(name) {
+        Ok(path) => Ok(path),
+        Err(_) => Err(io::Error::from(ErrorKind::InvalidFilename)),
+    }
 }
 
-// Makes a folder that only its owner may enter; `os` makes one that all may. Whether that is done; errno says
-// why it is not.
-pub fn make_folder(name: &[u8]) -> bool {
-    if !is_name(name) {
-        os::open_read(name);
-        return false;
-    }
-    let path = ended(name);
-    libc::mkdir(&path, 0o700) == 0
+// What is known of the file that has a name; of a link, the link. Where none is found the error says why, and so
+// it does where the system does not take the name.
+pub fn of_name(rt: &impl Files, name: &[u8]) -> io::Result<Facts>
+    ensures nothing { is_name name.now ≡ false → facts_in result ≡ nothing_known }
+    ensures refused { is_name name.now ≡ false → IsErr result }
+    ensures found { IfOk result (λ facts. facts.found ≡ true) }
+{
+    let path = path(name)?;
+    told(rt.symlink_metadata(path).map(stat_of))
+}
+
+// Makes a folder that only its owner may enter. Whether that is done; the error says why it is not.
+pub fn make_folder(rt: &impl Files, name: &[u8]) -> io::Result<()>
+    ensures { is_name name.now ≡ false → IsErr result }
+{
+    DirBuilder::new().mode(0o700).create(rt, path(name)?)
 }
 
 // Both are found, and are one file.

@@ -1,2 +1,0 @@
--- What the proofs by hand share.
-pub mod Lent
