@@ -1,119 +1,82 @@
-// Calls of the system that are tried again where a signal interrupted them.
-ghost use Rattle.io.specs.Counts.{IsPrefixLen};
+// Calls of the system that are tried again where a signal interrupted them: `look` and `fill` here, the others in std.
+ghost use Rattle.std.specs.Io.{ReadsAtMost};
 
 use file_facts::Facts;
+use std::fs::{File, OpenFile, OpenOptions};
+use std::io;
+use std::io::{ErrorKind, Read};
+use std::rt::Files;
 
 // So often an interrupted call is tried again.
 const TRIES: usize = 1000;
 
-// What came of reading: whether the input was read to its end or the lent bytes are full, and how many are.
-#[derive(Clone, Copy)]
-pub struct Filled {
-    pub done: bool,
-    pub count: usize,
-}
-
-// The last call failed because a signal interrupted it.
-fn interrupted() -> bool {
-    os::errno() == libc::EINTR
+// A call failed because a signal interrupted it.
+fn interrupted(error: io::Error) -> bool {
+    error.kind() == ErrorKind::Interrupted
 }
 
 // Opens a file for reading.
-pub fn open(path: &[u8]) -> i32 {
-    let mut fd = os::open_read(path);
-    let mut tries = TRIES;
-    while 0 < tries {
-        if 0 <= fd || !interrupted() {
-            return fd;
-        }
-        fd = os::open_read(path);
-        tries -= 1;
-    }
-    fd
+pub fn open<R: Files>(rt: &R, path: &[u8]) -> io::Result<R::File> {
+    File::open(rt, file_facts::path(path)?)
 }
 
 // Makes a file that is not there yet.
-pub fn create(path: &[u8]) -> i32 {
-    let mut fd = os::create(path);
-    let mut tries = TRIES;
-    while 0 < tries {
-        if 0 <= fd || !interrupted() {
-            return fd;
-        }
-        fd = os::create(path);
-        tries -= 1;
-    }
-    fd
+pub fn create<R: Files>(rt: &R, path: &[u8]) -> io::Result<R::File> {
+    OpenOptions::new()
+        .write(true)
+        .create_new(true)
+        .open(rt, file_facts::path(path)?)
 }
 
 // What is known of the file that has a name.
-pub fn look(path: &[u8]) -> Facts {
-    let mut facts = file_facts::of_name(path);
-    let mut tries = TRIES;
-    while 0 < tries {
-        if facts.found || !interrupted() {
-            return facts;
+pub fn look(rt: &impl Files, path: &[u8]) -> io::Result<Facts> {
+    for _ in 0..TRIES {
+        match file_facts::of_name(rt, path) {
+            Err(error) if interrupted(error) => {}
+            answer => return answer,
         }
-        facts = file_facts::of_name(path);
-        tries -= 1;
     }
-    facts
+    file_facts::of_name(rt, path)
 }
 
 // Brings a file to the disk.
-pub fn sync(fd: i32) -> bool {
-    let mut status = libc::fsync(fd);
-    let mut tries = TRIES;
-    while 0 < tries {
-        if status == 0 || !interrupted() {
-            return status == 0;
-        }
-        status = libc::fsync(fd);
-        tries -= 1;
-    }
-    status == 0
+pub fn sync(file: &impl OpenFile) -> io::Result<()> {
+    file.sync_all()
 }
 
-// Reads to the front of `buf` until it is full or the input ends.
-pub fn fill(fd: i32, buf: &mut [u8]) -> Filled
-    ensures { IsPrefixLen result.count buf.new }
+// Gives a file or a folder another name.
+pub fn rename(rt: &impl Files, from: &[u8], to: &[u8]) -> io::Result<()> {
+    rt.rename(file_facts::path(from)?, file_facts::path(to)?)
+}
+
+// Removes a file.
+pub fn unlink(rt: &impl Files, path: &[u8]) -> io::Result<()> {
+    rt.remove_file(file_facts::path(path)?)
+}
+
+// Removes a folder with nothing in it.
+pub fn rmdir(rt: &impl Files, path: &[u8]) -> io::Result<()> {
+    rt.remove_dir(file_facts::path(path)?)
+}
+
+// Reads to the front of `buf` until it is full or the input ends. How many bytes that are.
+pub fn fill(input: &mut impl Read, buf: &mut [u8]) -> io::Result<usize>
+    ensures { ReadsAtMost result buf.new }
 {
     let mut count = 0;
-    let mut tries = TRIES;
-    while count < buf.len() {
-        let part = &mut buf[count..];
-        let got = libc::read(fd, part);
-        let n = io::count(got, part);
-        if 0 < n {
-            count += n;
-        } else {
-            if got == 0 {
-                return Filled { done: true, count };
-            }
-            if tries == 0 || !interrupted() {
-                return Filled { done: false, count };
-            }
-            tries -= 1;
+    for _ in 0..buf.len().saturating_add(TRIES) {
+        if buf.len() <= count {
+            return Ok(count);
+        }
+        match input.read(&mut buf[count..]) {
+            Ok(0) => return Ok(count),
+            Ok(n) => count += n,
+            Err(error) if interrupted(error) => {}
+            Err(error) => return Err(error),
         }
     }
-    Filled { done: true, count }
-}
-
-// Writes all of some bytes.
-pub fn put(fd: i32, bytes: &[u8]) -> bool {
-    let mut at = 0;
-    let mut tries = TRIES;
-    while at < bytes.len() {
-        let part = &bytes[at..];
-        let n = io::count(libc::write(fd, part), part);
-        if 0 < n {
-            at += n;
-        } else {
-            if tries == 0 || !interrupted() {
-                return false;
-            }
-            tries -= 1;
-        }
+    if count < buf.len() {
+        return Err(io::Error::from(ErrorKind::Interrupted));
     }
-    true
+    Ok(count)
 }

@@ -5,12 +5,22 @@
 ghost use Rattle.io.specs.Counts.{IsPrefixLen};
 
 use file_facts::Facts;
+use std::io;
+use std::io::{Input, Print, Read};
+use std::rt::Files;
 
 mod calls;
 mod paths;
 mod said;
 pub mod saving;
 pub mod table;
+
+// The descriptors of the standard streams.
+pub const STDIN_FILENO: i32 = 0;
+
+pub const STDOUT_FILENO: i32 = 1;
+
+pub const STDERR_FILENO: i32 = 2;
 
 // What came of reading a file: whether it was read, how many of the lent bytes it fills, and which file it is.
 #[derive(Clone, Copy)]
@@ -33,59 +43,70 @@ pub fn is_standard(name: &[u8]) -> bool {
     text::same(name, b"-")
 }
 
-// Reads what is left of an open file to the front of `buf`. One that is longer fills `buf`.
-fn load_open(fd: i32, name: &[u8], buf: &mut [u8]) -> Loaded
+// Reads what is left of an open file, of which this is known, to the front of `buf`. One that is longer fills
+// `buf`.
+fn load_open(
+    input: &mut impl Read,
+    known: io::Result<Facts>,
+    name: &[u8],
+    buf: &mut [u8],
+) -> Loaded
     ensures { IsPrefixLen result.count buf.new }
 {
-    let facts = file_facts::of_descriptor(fd);
-    if !facts.found {
-        said::cannot_read(name);
-        return Loaded {
-            done: false,
-            count: 0,
+    let facts = match known {
+        Ok(facts) => facts,
+        Err(error) => return not_loaded(name, file_facts::unknown(), error),
+    };
+    match calls::fill(input, buf) {
+        Ok(count) => Loaded {
+            done: true,
+            count,
             facts,
-        };
+        },
+        Err(error) => not_loaded(name, facts, error),
     }
-    let filled = calls::fill(fd, buf);
-    if !filled.done {
-        said::cannot_read(name);
-    }
+}
+
+// Says that a file cannot be read, and why.
+fn not_loaded(name: &[u8], facts: Facts, error: io::Error) -> Loaded
+    ensures { result.count ≡ 0 }
+{
+    said::cannot_read(name, error);
     Loaded {
-        done: filled.done,
-        count: filled.count,
+        done: false,
+        count: 0,
         facts,
     }
 }
 
 // Reads a file to the front of `buf`. One that is longer fills `buf`.
-pub fn load(name: &[u8], buf: &mut [u8]) -> Loaded
+pub fn load(rt: &(impl Files + Input), name: &[u8], buf: &mut [u8]) -> Loaded
     ensures { IsPrefixLen result.count buf.new }
 {
     if is_standard(name) {
-        return load_open(libc::STDIN_FILENO, name, buf);
+        let known = file_facts::of_descriptor(rt, STDIN_FILENO);
+        return load_open(&mut rt.reader(), known, name, buf);
     }
-    let fd = calls::open(name);
-    if fd < 0 {
-        said::cannot_read(name);
-        return Loaded {
-            done: false,
-            count: 0,
-            facts: file_facts::unknown(),
-        };
+    match calls::open(rt, name) {
+        Ok(mut file) => {
+            let known = file_facts::of_file(&file);
+            load_open(&mut file, known, name, buf)
+        }
+        Err(error) => not_loaded(name, file_facts::unknown(), error),
     }
-    let loaded = load_open(fd, name, buf);
-    libc::close(fd);
-    loaded
 }
 
-// Writes all of some bytes to an open file that a person reads, and says where that cannot be done. Nothing
-// can be said of standard error itself.
-pub fn tell(fd: i32, bytes: &[u8]) -> bool {
-    let done = calls::put(fd, bytes);
-    if !done {
-        if fd == libc::STDOUT_FILENO {
-            said::cannot_write(b"-");
+// Writes all of some bytes to standard output, and says where that cannot be done, or else to standard error, of
+// which nothing can be said.
+pub fn tell(rt: &impl Print, fd: i32, bytes: &[u8]) -> bool {
+    if fd != STDOUT_FILENO {
+        return said::put(bytes);
+    }
+    match rt.write_all(bytes) {
+        Ok(()) => true,
+        Err(error) => {
+            said::cannot_write(b"-", error);
+            false
         }
     }
-    done
 }

@@ -2,6 +2,7 @@
 ghost use Rattle.io.specs.Counts.{IsPrefixLen};
 
 use crate::table::limb_at;
+use std::random::RandomSource;
 
 // Room for the longest name of an output, and the names beside it.
 pub const ROOM: usize = 4352;
@@ -23,14 +24,10 @@ pub fn add(out: &mut [u8], at: usize, more: &[u8]) -> usize
 pub fn folder(name: &[u8]) -> usize
     ensures { IsPrefixLen result name.now }
 {
-    let mut end = name.len();
-    while 0 < end {
-        if name[end - 1] == b'/' {
-            return end;
-        }
-        end -= 1;
+    match name.iter().rposition(|b| *b == b'/') {
+        Some(slash) => slash + 1,
+        None => 0,
     }
-    end
 }
 
 // Puts a number in decimal behind them likewise.
@@ -43,21 +40,21 @@ fn add_number(out: &mut [u8], at: usize, number: u64) -> usize
 }
 
 // Puts a name by chance, which hardly another process takes. How many bytes it has.
-pub fn own(out: &mut [u8]) -> usize
+pub fn own(rt: &impl RandomSource, out: &mut [u8]) -> usize
     ensures { IsPrefixLen result out.new }
 {
     let mut chance = [0u8; 8];
-    libc::getentropy(&mut chance);
+    let _ = rt.fill_bytes(&mut chance);
     let at = add(out, 0, b".remi-");
     add_number(out, at, limb_at(&chance, 0))
 }
 
-// Puts the name of the claim that no other user's process takes. How many bytes it has.
-pub fn own_claim(out: &mut [u8]) -> usize
+// Puts the name of the claim that no other user's process takes, by the user's number. How many bytes it has.
+pub fn own_claim(user: u32, out: &mut [u8]) -> usize
     ensures { IsPrefixLen result out.new }
 {
     let at = add(out, 0, b".remi-claim-");
-    add_number(out, at, libc::geteuid() as u64)
+    add_number(out, at, user as u64)
 }
 
 // Puts a name within a folder, and one within that where it is not empty. How many bytes they have.

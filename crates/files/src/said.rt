@@ -2,11 +2,36 @@
 ghost use Rattle.io.specs.Counts.{IsPrefixLen};
 
 use crate::paths::add;
+use std::fmt;
+use std::fmt::Write;
+use std::io::Error;
 
 // Room for a name of 4,096 bytes as it is printed, and for the words before and after it.
 const PRINTED: usize = 16384;
 
-const LINE: usize = 16640;
+const LINE: usize = 16896;
+
+// Room for what is said of an error.
+const WORDS: usize = 256;
+
+// What is said of an error, as far as there is room.
+#[derive(Drop)]
+struct Words {
+    bytes: [u8; WORDS],
+    len: usize,
+}
+
+impl Write for Words {
+    fn write_str(&mut self, s: &str) -> fmt::Result {
+        self.len = add(&mut self.bytes, self.len, s.as_bytes());
+        Ok(())
+    }
+}
+
+// Writes all of some bytes to standard error.
+pub fn put(bytes: &[u8]) -> bool {
+    io::write_all(crate::STDERR_FILENO, bytes)
+}
 
 // Puts words, and a name as it is printed, or other words in the place of the name -. How many bytes.
 fn put_named(words: &[u8], name: &[u8], standard: &[u8], out: &mut [u8]) -> usize
@@ -21,26 +46,50 @@ fn put_named(words: &[u8], name: &[u8], standard: &[u8], out: &mut [u8]) -> usiz
     add(out, at, &printed[..n])
 }
 
+// Puts the reason of an error behind the bytes at the front of `out`, in the system's words; std adds the number.
+fn put_reason(error: Error, out: &mut [u8], at: usize) -> usize
+    ensures { IsPrefixLen result out.new }
+{
+    let mut words = Words {
+        bytes: [0; WORDS],
+        len: 0,
+    };
+    let _ = write!(words, "{error}");
+    let told = str::from_utf8(&words.bytes[..words.len.min(WORDS)]).unwrap_or("");
+    match told.rsplit_once(" (os error ") {
+        Some((reason, _)) => add(out, at, reason.as_bytes()),
+        None => add(out, at, told.as_bytes()),
+    }
+}
+
 // Says what cannot be done with a file, and the system's reason.
-fn cannot(words: &[u8], name: &[u8], standard: &[u8]) {
+fn cannot(words: &[u8], name: &[u8], standard: &[u8], error: Error) {
     let mut line = [0u8; LINE];
-    let n = put_named(words, name, standard, &mut line);
-    os::fail(&line[..n]);
+    let mut n = put_named(words, name, standard, &mut line);
+    n = add(&mut line, n, b": ");
+    n = put_reason(error, &mut line, n);
+    n = add(&mut line, n, b"\n");
+    put(&line[..n]);
 }
 
 // Says that a file cannot be read, and why.
-pub fn cannot_read(name: &[u8]) {
-    cannot(b"cannot read ", name, b"standard input");
+pub fn cannot_read(name: &[u8], error: Error) {
+    cannot(b"cannot read ", name, b"standard input", error);
 }
 
 // Says that a file cannot be written, and why.
-pub fn cannot_write(name: &[u8]) {
-    cannot(b"cannot write ", name, b"standard output");
+pub fn cannot_write(name: &[u8], error: Error) {
+    cannot(b"cannot write ", name, b"standard output", error);
 }
 
 // Says that a file that was written cannot be brought to the disk, and why.
-pub fn cannot_bring(name: &[u8]) {
-    cannot(b"cannot bring to the disk ", name, b"standard output");
+pub fn cannot_bring(name: &[u8], error: Error) {
+    cannot(
+        b"cannot bring to the disk ",
+        name,
+        b"standard output",
+        error,
+    );
 }
 
 // Says what becomes of a file that is to be written, in words before its name and behind it.
@@ -48,7 +97,7 @@ fn tell(before: &[u8], name: &[u8], behind: &[u8]) {
     let mut line = [0u8; LINE];
     let n = put_named(before, name, b"standard output", &mut line);
     let end = add(&mut line, n, behind);
-    crate::calls::put(libc::STDERR_FILENO, &line[..end]);
+    put(&line[..end]);
 }
 
 // Says why a file that is to be written is left as it is.

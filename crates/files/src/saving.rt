@@ -2,12 +2,20 @@
 // brought to the disk; then the folder takes the name `.remi-claim`, which one process at a time can hold,
 // and while it does so the name of the output is looked at and the file takes it.
 ghost use Rattle.std.specs.Prelude.{◌≡◌};
-ghost use Rattle.io.specs.Counts.{IsPrefixLen};
+ghost use Rattle.std.specs.Io.{ReadsAtMost};
 ghost use Rattle.files.specs.Saving.{is_input, hindrance};
 
 use crate::paths::ROOM;
-use crate::{Inputs, calls, paths, said};
+use crate::{Inputs, STDOUT_FILENO, calls, paths, said};
 use file_facts::Facts;
+use std::fs::{OpenFile, Permissions};
+use std::io;
+use std::io::{ErrorKind, Print, Write};
+use std::os::fd::AsFd;
+use std::os::unix::fs::{PermissionsExt, fchown};
+use std::random::RandomSource;
+use std::rt::{Clock, Files};
+use std::thread;
 
 // Nothing stands against writing a file.
 const FREE: u8 = 0;
@@ -70,180 +78,238 @@ fn is_free(name: &[u8], file: Facts, inputs: Inputs, over: bool) -> bool {
     found == FREE
 }
 
-// The last look at a name found that there is no file.
-fn is_missing() -> bool {
-    let error = os::errno();
-    (error == libc::ENOENT) | (error == libc::ENOTDIR)
+// A look at a name found that there is no file.
+fn is_missing(error: io::Error) -> bool {
+    matches!(error.kind(), ErrorKind::NotFound | ErrorKind::NotADirectory)
 }
 
-// Whether it is known what has a name, if only that nothing has it; else that is said.
-fn is_known(name: &[u8], file: Facts) -> bool {
-    let known = file.found || is_missing();
-    if !known {
-        said::cannot_write(name);
+// What has a name, if only that nothing has it; where that cannot be known, it is said.
+fn known(rt: &impl Files, name: &[u8]) -> Option<Facts> {
+    match calls::look(rt, name) {
+        Ok(file) => Some(file),
+        Err(error) if is_missing(error) => Some(file_facts::unknown()),
+        Err(error) => {
+            said::cannot_write(name, error);
+            None
+        }
     }
-    known
 }
 
 // Writes to standard output, unless that is a file which is read.
-fn to_standard_output(content: &[u8], inputs: Inputs) -> bool {
-    let file = file_facts::of_descriptor(libc::STDOUT_FILENO);
-    if !file.found {
-        said::cannot_write(b"-");
-        return false;
-    }
+fn to_standard_output(rt: &(impl Files + Print), content: &[u8], inputs: Inputs) -> bool {
+    let file = match file_facts::of_descriptor(rt, STDOUT_FILENO) {
+        Ok(file) => file,
+        Err(error) => {
+            said::cannot_write(b"-", error);
+            return false;
+        }
+    };
     if file_facts::is_regular(file) {
         if !is_free(b"-", file, inputs, true) {
             return false;
         }
     }
-    crate::tell(libc::STDOUT_FILENO, content)
+    crate::tell(rt, STDOUT_FILENO, content)
 }
 
 // Makes a folder within a folder.
-fn make_folder(folder: &[u8], own: &[u8]) -> bool {
+fn make_folder(rt: &impl Files, folder: &[u8], own: &[u8]) -> io::Result<()> {
     let mut path = [0u8; ROOM];
     let n = paths::within(folder, own, b"", &mut path);
-    file_facts::make_folder(&path[..n])
+    file_facts::make_folder(rt, &path[..n])
 }
 
-// Makes a folder of a name that is free, and puts the name to the front of `own`. How many bytes it has; 0
-// where none can be made.
-fn make_own(folder: &[u8], own: &mut [u8]) -> usize
-    ensures { IsPrefixLen result own.new }
+// Another name may be free, or the call was interrupted.
+fn is_to_be_tried_again(error: io::Error) -> bool {
+    matches!(error.kind(), ErrorKind::AlreadyExists | ErrorKind::Interrupted)
+}
+
+// Makes a folder of a name that is free, and puts the name to the front of `own`. How many bytes it has.
+fn make_own(
+    rt: &(impl Files + RandomSource),
+    folder: &[u8],
+    own: &mut [u8],
+) -> io::Result<usize>
+    ensures { ReadsAtMost result own.new }
 {
-    for _ in 0..OWN_NAMES {
-        let n = paths::own(own);
-        if make_folder(folder, &own[..n]) {
-            return n;
-        }
-        let error = os::errno();
-        if (error != libc::EEXIST) & (error != libc::EINTR) {
-            return 0;
+    for _ in 1..OWN_NAMES {
+        let n = paths::own(rt, own);
+        match make_folder(rt, folder, &own[..n]) {
+            Ok(()) => return Ok(n),
+            Err(error) if is_to_be_tried_again(error) => {}
+            Err(error) => return Err(error),
         }
     }
-    0
+    let n = paths::own(rt, own);
+    make_folder(rt, folder, &own[..n])?;
+    Ok(n)
 }
 
 // Removes a folder beside an output and the file in it.
-fn remove(folder: &[u8], holder: &[u8], own: &[u8]) {
+fn remove(rt: &impl Files, folder: &[u8], holder: &[u8], own: &[u8]) {
     let mut path = [0u8; ROOM];
     let mut n = paths::within(folder, holder, own, &mut path);
-    os::unlink(&path[..n]);
+    let _ = calls::unlink(rt, &path[..n]);
     n = paths::within(folder, holder, b"", &mut path);
-    os::rmdir(&path[..n]);
+    let _ = calls::rmdir(rt, &path[..n]);
 }
 
 // Renames a folder within a folder.
-fn rename(folder: &[u8], from: &[u8], to: &[u8]) -> bool {
+fn rename(rt: &impl Files, folder: &[u8], from: &[u8], to: &[u8]) -> io::Result<()> {
     let mut old = [0u8; ROOM];
     let n = paths::within(folder, from, b"", &mut old);
     let mut new = [0u8; ROOM];
     let k = paths::within(folder, to, b"", &mut new);
-    os::rename(&old[..n], &new[..k]) == 0
+    calls::rename(rt, &old[..n], &new[..k])
+}
+
+// Gives a file a mode.
+fn set_mode(file: &impl OpenFile, mode: u32) -> io::Result<()> {
+    file.set_permissions(Permissions::from_mode(mode))
 }
 
 // Gives a new file the mode of the one whose place it takes, without the bits that lend its owner.
-fn keep_mode(fd: i32, old: Facts) -> bool {
-    !old.found || libc::fchmod(fd, file_facts::kept_mode(old) % 512) == 0
+fn keep_mode(file: &impl OpenFile, old: Facts) -> io::Result<()> {
+    if !old.found {
+        return Ok(());
+    }
+    set_mode(file, file_facts::kept_mode(old) % 512)
 }
 
 // Gives a new file the owner of the one whose place it takes, and all bits of its mode; where the owner cannot
 // be kept, the group; where that cannot be either, the group may do nothing.
-fn keep_owner(fd: i32, old: Facts) -> bool {
+fn keep_owner(file: &(impl OpenFile + AsFd), old: Facts) -> io::Result<()> {
     if !old.found {
-        return true;
+        return Ok(());
     }
     let mode = file_facts::kept_mode(old);
-    if libc::fchown(fd, old.owner, old.group) == 0 {
-        return libc::fchmod(fd, mode) == 0;
+    if fchown(file, Some(old.owner), Some(old.group)).is_ok() {
+        return set_mode(file, mode);
     }
-    if libc::fchown(fd, u32::MAX, old.group) == 0 {
-        return true;
+    if fchown(file, None, Some(old.group)).is_ok() {
+        return Ok(());
     }
-    libc::fchmod(fd, mode % 512 / 64 * 64 + mode % 8) == 0
+    set_mode(file, mode % 512 / 64 * 64 + mode % 8)
 }
 
 // Fills a new file, gives it mode and owner, and brings it to the disk.
-fn fill(fd: i32, content: &[u8], old: Facts) -> bool {
-    calls::put(fd, content) && keep_mode(fd, old) && keep_owner(fd, old) && calls::sync(fd)
+fn fill(file: &mut (impl Write + OpenFile + AsFd), content: &[u8], old: Facts) -> io::Result<()> {
+    file.write_all(content)?;
+    keep_mode(file, old)?;
+    keep_owner(file, old)?;
+    calls::sync(file)
 }
 
 // Makes the file in the process's own folder, and brings it to the disk.
-fn make(name: &[u8], folder: &[u8], own: &[u8], content: &[u8], old: Facts) -> bool {
+fn make<R: Files>(
+    rt: &R,
+    name: &[u8],
+    folder: &[u8],
+    own: &[u8],
+    content: &[u8],
+    old: Facts,
+) -> bool
+where
+    R::File: AsFd,
+{
     let mut path = [0u8; ROOM];
     let n = paths::within(folder, own, own, &mut path);
-    let fd = calls::create(&path[..n]);
-    if fd < 0 {
-        said::cannot_write(name);
-        return false;
+    let done = match calls::create(rt, &path[..n]) {
+        Ok(mut file) => fill(&mut file, content, old),
+        Err(error) => Err(error),
+    };
+    match done {
+        Ok(()) => true,
+        Err(error) => {
+            said::cannot_write(name, error);
+            false
+        }
     }
-    let done = fill(fd, content, old);
-    if !done {
-        said::cannot_write(name);
-    }
-    libc::close(fd);
-    done
 }
 
 // Moves a claim aside that does not go, to a name of the process's own.
-fn move_aside(folder: &[u8], claim: &[u8]) {
+fn move_aside(rt: &(impl Files + RandomSource), folder: &[u8], claim: &[u8]) {
     let mut own = [0u8; 64];
-    let n = make_own(folder, &mut own);
-    if 0 < n {
-        if !rename(folder, claim, &own[..n]) {
-            remove(folder, &own[..n], b"");
+    if let Ok(n) = make_own(rt, folder, &mut own) {
+        if rename(rt, folder, claim, &own[..n]).is_err() {
+            remove(rt, folder, &own[..n], b"");
         }
     }
 }
 
 // Another process holds the claim, as a folder with something in it is not replaced; or the call was
 // interrupted.
-fn is_held() -> bool {
-    let error = os::errno();
-    (error == libc::ENOTEMPTY) | (error == libc::EEXIST) | (error == libc::EINTR)
+fn is_held(error: io::Error) -> bool {
+    error.kind() == ErrorKind::DirectoryNotEmpty || is_to_be_tried_again(error)
 }
 
 // The clock's second.
-fn second() -> i64 {
-    let mut now = 0;
-    libc::time(&mut now)
+fn second(rt: &impl Clock) -> u64 {
+    match rt.since_1970() {
+        Ok(time) => time.as_secs(),
+        Err(_) => 0,
+    }
 }
 
 // Makes the process's own folder the claim. One that does not go is moved aside when the clock's second
 // changes for the second time, which is after one second to two.
-fn take(folder: &[u8], own: &[u8], claim: &[u8]) -> bool {
-    let mut last = second();
+fn take(
+    rt: &(impl Files + Clock + RandomSource),
+    folder: &[u8],
+    own: &[u8],
+    claim: &[u8],
+) -> io::Result<()> {
+    let mut last = second(rt);
     let mut waited = false;
-    for _ in 0..ASKED {
-        if rename(folder, own, claim) {
-            return true;
+    for _ in 1..ASKED {
+        match rename(rt, folder, own, claim) {
+            Err(error) if is_held(error) => {}
+            answer => return answer,
         }
-        if !is_held() {
-            return false;
-        }
-        let now = second();
+        let now = second(rt);
         if now != last {
             if waited {
-                move_aside(folder, claim);
+                move_aside(rt, folder, claim);
             }
             waited = !waited;
             last = now;
         }
-        libc::sched_yield();
+        thread::yield_now();
     }
-    false
+    rename(rt, folder, own, claim)
+}
+
+// The number of the user who runs the process, to whom the process's own folder belongs.
+fn user(rt: &impl Files, folder: &[u8], own: &[u8]) -> io::Result<u32> {
+    let mut path = [0u8; ROOM];
+    let n = paths::within(folder, own, b"", &mut path);
+    Ok(calls::look(rt, &path[..n])?.owner)
+}
+
+// Makes the process's own folder the claim that no other user takes, and puts the claim's name to the front of
+// `claim`. How many bytes it has.
+fn take_own_claim(
+    rt: &(impl Files + Clock + RandomSource),
+    folder: &[u8],
+    own: &[u8],
+    claim: &mut [u8],
+) -> io::Result<usize>
+    ensures { ReadsAtMost result claim.new }
+{
+    let n = paths::own_claim(user(rt, folder, own)?, claim);
+    take(rt, folder, own, &claim[..n])?;
+    Ok(n)
 }
 
 // Gives the file in a folder its name. If another process has moved the folder aside, that is said.
-fn give_name(name: &[u8], folder: &[u8], holder: &[u8], own: &[u8]) -> bool {
+fn give_name(rt: &impl Files, name: &[u8], folder: &[u8], holder: &[u8], own: &[u8]) -> bool {
     let mut path = [0u8; ROOM];
     let n = paths::within(folder, holder, own, &mut path);
-    if os::rename(&path[..n], name) == 0 {
+    let Err(error) = calls::rename(rt, &path[..n], name) else {
         return true;
-    }
-    if file_facts::of_name(&path[..n]).found {
-        said::cannot_write(name);
+    };
+    if file_facts::of_name(rt, &path[..n]).is_ok() {
+        said::cannot_write(name, error);
     } else {
         said::overtaken(name);
     }
@@ -251,29 +317,31 @@ fn give_name(name: &[u8], folder: &[u8], holder: &[u8], own: &[u8]) -> bool {
 }
 
 // Opens the folder that an output lies in.
-fn open_folder(folder: &[u8]) -> i32 {
+fn open_folder<R: Files>(rt: &R, folder: &[u8]) -> io::Result<R::File> {
     if folder.len() == 0 {
-        return calls::open(b".");
+        return calls::open(rt, b".");
     }
-    calls::open(folder)
+    calls::open(rt, folder)
 }
 
 // Brings a folder to the disk, if it can be opened and its disk can do that.
-fn sync_folder(name: &[u8], folder: &[u8]) -> bool {
-    let fd = open_folder(folder);
-    if fd < 0 {
+fn sync_folder(rt: &impl Files, name: &[u8], folder: &[u8]) -> bool {
+    let Ok(file) = open_folder(rt, folder) else {
         return true;
+    };
+    match calls::sync(&file) {
+        Ok(()) => true,
+        Err(error) if error.kind() == ErrorKind::InvalidInput => true,
+        Err(error) => {
+            said::cannot_bring(name, error);
+            false
+        }
     }
-    let done = calls::sync(fd) || os::errno() == libc::EINVAL;
-    if !done {
-        said::cannot_bring(name);
-    }
-    libc::close(fd);
-    done
 }
 
 // Gives the file that was made its name, from the folder that holds it, if nothing stands against that.
 fn place_from(
+    rt: &impl Files,
     name: &[u8],
     folder: &[u8],
     holder: &[u8],
@@ -281,51 +349,86 @@ fn place_from(
     over: bool,
     inputs: Inputs,
 ) -> bool {
-    let file = calls::look(name);
-    let done = is_known(name, file)
-        && is_free(name, file, inputs, over)
-        && give_name(name, folder, holder, own);
-    remove(folder, holder, own);
-    done && sync_folder(name, folder)
+    let done = match known(rt, name) {
+        Some(file) => {
+            is_free(name, file, inputs, over) && give_name(rt, name, folder, holder, own)
+        }
+        None => false,
+    };
+    remove(rt, folder, holder, own);
+    done && sync_folder(rt, name, folder)
 }
 
 // The same, with the claim; where that is another user's, in a folder in which only its owner may move it,
 // with one that no other user takes.
-fn place(name: &[u8], folder: &[u8], own: &[u8], over: bool, inputs: Inputs) -> bool {
-    if take(folder, own, &CLAIM) {
-        return place_from(name, folder, &CLAIM, own, over, inputs);
+fn place(
+    rt: &(impl Files + Clock + RandomSource),
+    name: &[u8],
+    folder: &[u8],
+    own: &[u8],
+    over: bool,
+    inputs: Inputs,
+) -> bool {
+    if take(rt, folder, own, &CLAIM).is_ok() {
+        return place_from(rt, name, folder, &CLAIM, own, over, inputs);
     }
     let mut claim = [0u8; 64];
-    let n = paths::own_claim(&mut claim);
-    if take(folder, own, &claim[..n]) {
-        return place_from(name, folder, &claim[..n], own, over, inputs);
+    match take_own_claim(rt, folder, own, &mut claim) {
+        Ok(n) => place_from(rt, name, folder, &claim[..n], own, over, inputs),
+        Err(error) => {
+            said::cannot_write(name, error);
+            remove(rt, folder, own, own);
+            false
+        }
     }
-    said::cannot_write(name);
-    remove(folder, own, own);
-    false
+}
+
+// Writes a file that is no standard stream: whole, or not at all.
+fn save_file<R: Files + Clock + RandomSource>(
+    rt: &R,
+    name: &[u8],
+    content: &[u8],
+    over: bool,
+    inputs: Inputs,
+    old: Facts,
+) -> bool
+where
+    R::File: AsFd,
+{
+    let folder = &name[..paths::folder(name)];
+    let mut space = [0u8; 64];
+    let own = match make_own(rt, folder, &mut space) {
+        Ok(k) => &space[..k],
+        Err(error) => {
+            said::cannot_write(name, error);
+            return false;
+        }
+    };
+    if !make(rt, name, folder, own, content, old) {
+        remove(rt, folder, own, own);
+        return false;
+    }
+    place(rt, name, folder, own, over, inputs)
 }
 
 // Writes a file: whole, or not at all.
-pub fn save(name: &[u8], content: &[u8], over: bool, inputs: Inputs) -> bool {
+pub fn save<R: Files + Clock + RandomSource + Print>(
+    rt: &R,
+    name: &[u8],
+    content: &[u8],
+    over: bool,
+    inputs: Inputs,
+) -> bool
+where
+    R::File: AsFd,
+{
     if crate::is_standard(name) {
-        return to_standard_output(content, inputs);
+        return to_standard_output(rt, content, inputs);
     }
-    let old = calls::look(name);
-    if !is_known(name, old) || !is_free(name, old, inputs, over) {
-        return false;
+    match known(rt, name) {
+        Some(old) if is_free(name, old, inputs, over) => {
+            save_file(rt, name, content, over, inputs, old)
+        }
+        _ => false,
     }
-    let n = paths::folder(name);
-    let folder = &name[..n];
-    let mut space = [0u8; 64];
-    let k = make_own(folder, &mut space);
-    if k == 0 {
-        said::cannot_write(name);
-        return false;
-    }
-    let own = &space[..k];
-    if !make(name, folder, own, content, old) {
-        remove(folder, own, own);
-        return false;
-    }
-    place(name, folder, own, over, inputs)
 }
