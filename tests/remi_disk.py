@@ -5,7 +5,7 @@ that the system gives. Two names of one file are one entry under both, and an en
 """
 
 import os
-from errno import EACCES, EISDIR, ELOOP, ENAMETOOLONG, ENOENT, ENOSPC, ENOTDIR, ENXIO
+from errno import EACCES, EILSEQ, EISDIR, ELOOP, ENAMETOOLONG, ENOENT, ENOSPC, ENOTDIR, ENXIO
 from typing import NamedTuple
 
 from remi_line import STANDARD, escaped
@@ -146,9 +146,11 @@ class Disk:
             stop_at(EACCES)
 
     def key(self, name, follow):
-        """Where a name leads. A link at its end is followed if that is asked for, one before the end always."""
+        """Where a name leads. A link at its end is followed if that is asked for, one before the end always. Only UTF-8 is a name."""
         if not name or len(os.fsencode(name)) > MOST_PATH:
             stop_at(ENAMETOOLONG if name else ENOENT)
+        if any("\ud800" <= part <= "\udfff" for part in name):
+            raise OSError(EILSEQ, "invalid filename")
         key, left, links = "", name.removeprefix(f"{self.place}/").split("/"), 0
         while left:
             part = left.pop(0)

@@ -1,6 +1,8 @@
 // The arguments of the program one after another: words, options, and what an option takes.
 ghost use Rattle.std.specs.Prelude.{◌<◌};
 
+use std::rt::Env;
+
 // What an argument is: a word, the end of the options, an option, no option at all, or too long.
 pub const WORD: u8 = b'w';
 
@@ -60,12 +62,11 @@ fn kind(argument: &[u8]) -> u8 {
 }
 
 // What argument i is.
-fn kind_at(i: usize, ended: bool) -> u8 {
+fn kind_at(rt: &impl Env, i: usize, ended: bool) -> u8 {
     let mut buf = io::buffer();
-    let n = os::arg(i, &mut buf);
-    if os::errno() != 0 {
+    let Ok(n) = rt.arg(i, &mut buf) else {
         return LONG;
-    }
+    };
     if ended {
         return WORD;
     }
@@ -73,8 +74,8 @@ fn kind_at(i: usize, ended: bool) -> u8 {
 }
 
 // An argument is longer than any name.
-pub fn is_long(i: usize) -> bool {
-    kind_at(i, true) == LONG
+pub fn is_long(rt: &impl Env, i: usize) -> bool {
+    kind_at(rt, i, true) == LONG
 }
 
 // An option takes the argument behind it.
@@ -83,11 +84,11 @@ fn takes_one(kind: u8) -> bool {
 }
 
 // The item that begins at argument i, of which there are fewer than `end`.
-pub fn at(i: usize, ended: bool, end: usize) -> Item
+pub fn at(rt: &impl Env, i: usize, ended: bool, end: usize) -> Item
     requires { i < end }
     ensures { i < result.next }
 {
-    let kind = kind_at(i, ended);
+    let kind = kind_at(rt, i, ended);
     let ended = ended | (kind == END);
     let next = i + 1;
     if next < end && takes_one(kind) {

@@ -6,6 +6,8 @@ ghost use Rattle.io.specs.Counts.{IsPrefixLen};
 
 use items::Item;
 use replies::{Profile, Reply};
+use std::env::FillError;
+use std::rt::Env;
 use wrong::Wrong;
 
 pub mod items;
@@ -43,6 +45,36 @@ pub struct Asked {
     pub next: u8,
 }
 
+// Puts argument i, as much of it as there is room for, to the front of `buf`. How many bytes; 0 where there is no
+// such argument.
+pub fn arg(rt: &impl Env, i: usize, buf: &mut [u8]) -> usize
+    ensures { IsPrefixLen result buf.new }
+{
+    match rt.arg(i, buf) {
+        Ok(n) => n,
+        Err(FillError::TooLong) => buf.len(),
+        Err(FillError::NotPresent) => 0,
+    }
+}
+
+// There is an argument i.
+fn is_argument(rt: &impl Env, i: usize) -> bool {
+    !matches!(rt.arg(i, &mut []), Err(FillError::NotPresent))
+}
+
+// How many arguments there are, the program's own name among them. They are numbered without a gap, so each bit of
+// the count, the highest first, is set if there is an argument below the count with that bit.
+pub fn arg_count(rt: &impl Env) -> usize {
+    let mut count: usize = 0;
+    for bit in (0..32).rev() {
+        let more = count.saturating_add(1 << bit);
+        if is_argument(rt, more.saturating_sub(1)) {
+            count = more;
+        }
+    }
+    count
+}
+
 // The subcommands, and any other word.
 #[derive(Clone, Copy)]
 pub enum Command {
@@ -63,7 +95,7 @@ pub enum Command {
 }
 
 // What is wrong with an item at argument i, behind what stands in the line.
-fn fault(line: Line, item: Item, i: usize) -> Wrong {
+fn fault(rt: &impl Env, line: Line, item: Item, i: usize) -> Wrong {
     let kind = item.kind;
     let before = match kind {
         items::LONG => return wrong::of(wrong::TOO_LONG, i),
@@ -78,7 +110,7 @@ fn fault(line: Line, item: Item, i: usize) -> Wrong {
     if item.taken == 0 {
         return wrong::of(wrong::NOTHING_FOLLOWS, kind as usize);
     }
-    if items::is_long(item.taken) {
+    if items::is_long(rt, item.taken) {
         return wrong::of(wrong::TOO_LONG, item.taken);
     }
     wrong::nothing()
@@ -120,14 +152,14 @@ fn blank() -> Line {
 }
 
 // What the program was started with, up to the first item that is wrong.
-pub fn started() -> Line {
+pub fn started(rt: &impl Env) -> Line {
     let mut line = blank();
-    let end = os::arg_count();
+    let end = arg_count(rt);
     let mut ended = false;
     let mut i = 1;
     while i < end {
-        let item = items::at(i, ended, end);
-        let found = fault(line, item, i);
+        let item = items::at(rt, i, ended, end);
+        let found = fault(rt, line, item, i);
         if found.what != wrong::NOTHING {
             line.wrong = found;
             return line;
@@ -140,13 +172,13 @@ pub fn started() -> Line {
 }
 
 // The argument that is word k; 0, which is the program's own name, where there is none.
-pub fn argument(k: usize) -> usize {
-    let end = os::arg_count();
+pub fn argument(rt: &impl Env, k: usize) -> usize {
+    let end = arg_count(rt);
     let mut left = k;
     let mut ended = false;
     let mut i = 1;
     while i < end {
-        let item = items::at(i, ended, end);
+        let item = items::at(rt, i, ended, end);
         if item.kind == items::WORD {
             if left == 0 {
                 return i;
@@ -160,36 +192,36 @@ pub fn argument(k: usize) -> usize {
 }
 
 // Whether argument i is this text.
-pub fn is_text(i: usize, text: &[u8]) -> bool {
+pub fn is_text(rt: &impl Env, i: usize, text: &[u8]) -> bool {
     let mut buf = io::buffer();
-    let n = os::arg(i, &mut buf);
+    let n = arg(rt, i, &mut buf);
     text::same(&buf[..n], text)
 }
 
 // Puts word k to the front of `buf`. How many bytes it has.
-pub fn word(k: usize, buf: &mut [u8]) -> usize
+pub fn word(rt: &impl Env, k: usize, buf: &mut [u8]) -> usize
     ensures { IsPrefixLen result buf.new }
 {
-    os::arg(argument(k), buf)
+    arg(rt, argument(rt, k), buf)
 }
 
 // Whether word k is this text.
-pub fn is_word(line: Line, k: usize, text: &[u8]) -> bool {
-    k < line.count && is_text(argument(k), text)
+pub fn is_word(rt: &impl Env, line: Line, k: usize, text: &[u8]) -> bool {
+    k < line.count && is_text(rt, argument(rt, k), text)
 }
 
 // Takes the number at an argument to ten limbs, if it is one.
-fn limbs_at(i: usize, limbs: &mut [u64; 10]) -> bool {
+fn limbs_at(rt: &impl Env, i: usize, limbs: &mut [u64; 10]) -> bool {
     let mut buf = io::buffer();
-    let n = os::arg(i, &mut buf);
+    let n = arg(rt, i, &mut buf);
     decimals::limbs_in(&buf[..n], limbs)
 }
 
 // The number at an argument.
-pub fn number_at(i: usize) -> Typed {
+pub fn number_at(rt: &impl Env, i: usize) -> Typed {
     let mut limbs = [0u64; 10];
     let mut found = wrong::nothing();
-    if !limbs_at(i, &mut limbs) {
+    if !limbs_at(rt, i, &mut limbs) {
         found = wrong::of(wrong::NO_NUMBER, i);
     }
     Typed {
@@ -199,24 +231,24 @@ pub fn number_at(i: usize) -> Typed {
 }
 
 // Takes the number in word k to ten limbs, if it is one.
-pub fn limbs(k: usize, limbs: &mut [u64; 10]) -> bool {
-    limbs_at(argument(k), limbs)
+pub fn limbs(rt: &impl Env, k: usize, limbs: &mut [u64; 10]) -> bool {
+    limbs_at(rt, argument(rt, k), limbs)
 }
 
 // Word k as a number.
-pub fn number(line: Line, k: usize) -> Typed {
+pub fn number(rt: &impl Env, line: Line, k: usize) -> Typed {
     if line.count <= k {
         return Typed {
             wrong: wrong::of(wrong::MISSING, 0),
             value: 0,
         };
     }
-    number_at(argument(k))
+    number_at(rt, argument(rt, k))
 }
 
 // A published profile, by the number of its row in word 2.
-fn row(line: Line) -> Asked {
-    let typed = number(line, 2);
+fn row(rt: &impl Env, line: Line) -> Asked {
+    let typed = number(rt, line, 2);
     let found = typed.wrong;
     let published = catalogue::published_profile(typed.value as usize);
     let reply = published.reply;
@@ -229,9 +261,9 @@ fn row(line: Line) -> Asked {
 }
 
 // q and x from word 1 on, where there are no words and so no m.
-fn levels_and_reach(line: Line) -> Asked {
-    let q = number(line, 1);
-    let x = number(line, 2);
+fn levels_and_reach(rt: &impl Env, line: Line) -> Asked {
+    let q = number(rt, line, 1);
+    let x = number(rt, line, 2);
     let fault_of_q = q.wrong;
     let fault_of_x = x.wrong;
     Asked {
@@ -243,13 +275,13 @@ fn levels_and_reach(line: Line) -> Asked {
 }
 
 // The profile from word 1 on: `row` and a number, or q, m and x.
-fn profile(line: Line) -> Asked {
-    if is_word(line, 1, b"row") {
-        return row(line);
+fn profile(rt: &impl Env, line: Line) -> Asked {
+    if is_word(rt, line, 1, b"row") {
+        return row(rt, line);
     }
-    let q = number(line, 1);
-    let m = number(line, 2);
-    let x = number(line, 3);
+    let q = number(rt, line, 1);
+    let m = number(rt, line, 2);
+    let x = number(rt, line, 3);
     let fault_of_q = q.wrong;
     let fault_of_m = m.wrong;
     let fault_of_x = x.wrong;
@@ -272,11 +304,11 @@ fn none() -> Asked {
 }
 
 // The profile that a subcommand asks for.
-pub fn asking(line: Line, command: Command) -> Asked {
+pub fn asking(rt: &impl Env, line: Line, command: Command) -> Asked {
     match command {
-        Command::Find => levels_and_reach(line),
+        Command::Find => levels_and_reach(rt, line),
         Command::Profiles => none(),
         Command::Help => none(),
-        _ => profile(line),
+        _ => profile(rt, line),
     }
 }

@@ -3,51 +3,52 @@ ghost use Rattle.std.specs.Prelude.{◌≤◌};
 
 use crate::wrong::Wrong;
 use crate::{Asked, Command, Line, items, wrong};
+use std::rt::Env;
 
 // Which subcommand word k is.
-pub fn command(line: Line, k: usize) -> Command {
-    if crate::is_word(line, k, b"read") {
+pub fn command(rt: &impl Env, line: Line, k: usize) -> Command {
+    if crate::is_word(rt, line, k, b"read") {
         return Command::Read;
     }
-    if crate::is_word(line, k, b"check") {
+    if crate::is_word(rt, line, k, b"check") {
         return Command::Check;
     }
-    if crate::is_word(line, k, b"write") {
+    if crate::is_word(rt, line, k, b"write") {
         return Command::Write;
     }
-    if crate::is_word(line, k, b"find") {
+    if crate::is_word(rt, line, k, b"find") {
         return Command::Find;
     }
-    if crate::is_word(line, k, b"join") {
+    if crate::is_word(rt, line, k, b"join") {
         return Command::Join;
     }
-    if crate::is_word(line, k, b"turn") {
+    if crate::is_word(rt, line, k, b"turn") {
         return Command::Turn;
     }
-    if crate::is_word(line, k, b"index") {
+    if crate::is_word(rt, line, k, b"index") {
         return Command::Index;
     }
-    if crate::is_word(line, k, b"word") {
+    if crate::is_word(rt, line, k, b"word") {
         return Command::Word;
     }
-    if crate::is_word(line, k, b"table") {
+    if crate::is_word(rt, line, k, b"table") {
         return Command::Table;
     }
-    more_commands(line, k)
+    more_commands(rt, line, k)
 }
 
 // The other subcommands.
-fn more_commands(line: Line, k: usize) -> Command {
-    if crate::is_word(line, k, b"rate") {
+fn more_commands(rt: &impl Env, line: Line, k: usize) -> Command {
+    if crate::is_word(rt, line, k, b"rate") {
         return Command::Rate;
     }
-    if crate::is_word(line, k, b"profiles") {
+    if crate::is_word(rt, line, k, b"profiles") {
         return Command::Profiles;
     }
-    if crate::is_word(line, k, b"list") {
+    if crate::is_word(rt, line, k, b"list") {
         return Command::List;
     }
-    if crate::is_word(line, k, b"help") {
+    if crate::is_word(rt, line, k, b"help") {
         return Command::Help;
     }
     Command::Other
@@ -184,22 +185,22 @@ pub fn output(command: Command, asked: Asked) -> usize {
 }
 
 // How many words are - among so many from a place on.
-fn standard(from: usize, most: usize) -> usize {
-    let end = os::arg_count();
+fn standard(rt: &impl Env, from: usize, most: usize) -> usize {
+    let end = crate::arg_count(rt);
     let mut skipped = from;
     let mut left = most;
     let mut count = 0;
     let mut ended = false;
     let mut i = 1;
     while i < end {
-        let item = items::at(i, ended, end);
+        let item = items::at(rt, i, ended, end);
         if item.kind == items::WORD {
             if 0 < skipped {
                 skipped -= 1;
             } else if 0 < left {
                 left -= 1;
                 if count < 2 {
-                    if crate::is_text(i, b"-") {
+                    if crate::is_text(rt, i, b"-") {
                         count += 1;
                     }
                 }
@@ -212,66 +213,66 @@ fn standard(from: usize, most: usize) -> usize {
 }
 
 // The name - stands for more than one file that is read.
-fn is_standard_twice(line: Line, command: Command, next: usize) -> bool {
-    let words = standard(next, inputs(command));
-    let table = 0 < line.table && crate::is_text(line.table, b"-");
+fn is_standard_twice(rt: &impl Env, line: Line, command: Command, next: usize) -> bool {
+    let words = standard(rt, next, inputs(command));
+    let table = 0 < line.table && crate::is_text(rt, line.table, b"-");
     (1 < words) | ((0 < words) & table)
 }
 
 // What is wrong with the number that stands first behind the profile.
-fn first_number(line: Line, command: Command, next: usize) -> Wrong {
+fn first_number(rt: &impl Env, line: Line, command: Command, next: usize) -> Wrong {
     if is_number_first(command) && next < line.count {
-        let typed = crate::number(line, next);
+        let typed = crate::number(rt, line, next);
         return typed.wrong;
     }
     wrong::nothing()
 }
 
 // What is wrong with the number of bits.
-fn number_of_bits(line: Line) -> Wrong {
+fn number_of_bits(rt: &impl Env, line: Line) -> Wrong {
     if 0 < line.bits {
-        let typed = crate::number_at(line.bits);
+        let typed = crate::number_at(rt, line.bits);
         return typed.wrong;
     }
     wrong::nothing()
 }
 
 // The first word that is too many, where there are so many behind the profile.
-fn left_over(line: Line, most: usize, next: usize) -> Wrong {
+fn left_over(rt: &impl Env, line: Line, most: usize, next: usize) -> Wrong {
     if line.count <= next {
         return wrong::nothing();
     }
     if line.count - next <= most {
         return wrong::nothing();
     }
-    wrong::of(wrong::TOO_MANY, crate::argument(next + most))
+    wrong::of(wrong::TOO_MANY, crate::argument(rt, next + most))
 }
 
 // What is wrong with the words behind the profile.
-fn behind(line: Line, command: Command, next: u8) -> Wrong {
+fn behind(rt: &impl Env, line: Line, command: Command, next: u8) -> Wrong {
     let next = next as usize;
     if line.count < next + least(command) {
         return wrong::of(wrong::MISSING, 0);
     }
-    let found = first_number(line, command, next);
+    let found = first_number(rt, line, command, next);
     if found.what != wrong::NOTHING {
         return found;
     }
-    let over = left_over(line, most(line, command), next);
-    wrong::first(over, number_of_bits(line))
+    let over = left_over(rt, line, most(line, command), next);
+    wrong::first(over, number_of_bits(rt, line))
 }
 
 // What is wrong with the words of a subcommand.
-pub fn words(line: Line, command: Command, asked: Asked) -> Wrong {
+pub fn words(rt: &impl Env, line: Line, command: Command, asked: Asked) -> Wrong {
     let of_profile = asked.wrong;
     if of_profile.what != wrong::NOTHING {
         return of_profile;
     }
-    let found = behind(line, command, asked.next);
+    let found = behind(rt, line, command, asked.next);
     if found.what != wrong::NOTHING {
         return found;
     }
-    if is_standard_twice(line, command, asked.next as usize) {
+    if is_standard_twice(rt, line, command, asked.next as usize) {
         return wrong::of(wrong::TWO_STANDARD, 0);
     }
     wrong::nothing()

@@ -3,99 +3,101 @@ use crate::telling;
 use crate::telling::{PAGE, Told, counted, text};
 use command_line::wrong::Wrong;
 use command_line::{Command, Line, items, wrong};
+use std::io::Print;
+use std::rt::Env;
 
 // An argument as it is printed.
-fn argument(page: &mut [u8; PAGE], told: Told, i: usize) -> Told {
+fn argument(rt: &(impl Env + Print), page: &mut [u8; PAGE], told: Told, i: usize) -> Told {
     let mut word = io::buffer();
-    let n = os::arg(i, &mut word);
-    telling::name(page, told, &word[..n], b"-")
+    let n = command_line::arg(rt, i, &mut word);
+    telling::name(rt, page, told, &word[..n], b"-")
 }
 
 // The subcommand.
-fn subcommand(page: &mut [u8; PAGE], told: Told) -> Told {
-    argument(page, told, command_line::argument(0))
+fn subcommand(rt: &(impl Env + Print), page: &mut [u8; PAGE], told: Told) -> Told {
+    argument(rt, page, told, command_line::argument(rt, 0))
 }
 
 // An option, by its letter.
-fn option(page: &mut [u8; PAGE], told: Told, at: usize) -> Told {
+fn option(rt: &impl Print, page: &mut [u8; PAGE], told: Told, at: usize) -> Told {
     if at == items::OVER as usize {
-        return text(page, told, b"-f");
+        return text(rt, page, told, b"-f");
     }
     if at == items::TABLE as usize {
-        return text(page, told, b"-t");
+        return text(rt, page, told, b"-t");
     }
     if at == items::BITS as usize {
-        return text(page, told, b"-n");
+        return text(rt, page, told, b"-n");
     }
-    text(page, told, b"--json")
+    text(rt, page, told, b"--json")
 }
 
 // What is wrong with an argument.
-fn of_argument(page: &mut [u8; PAGE], told: Told, found: Wrong) -> Told {
-    let more = argument(page, told, found.at);
+fn of_argument(rt: &(impl Env + Print), page: &mut [u8; PAGE], told: Told, found: Wrong) -> Told {
+    let more = argument(rt, page, told, found.at);
     let what = found.what;
     match what {
-        wrong::OTHER_SUBCOMMAND => text(page, more, b" is no subcommand"),
-        wrong::NO_OPTION => text(page, more, b" is no option"),
-        wrong::TOO_MANY => text(page, more, b" is one word too many"),
-        _ => text(page, more, b" is no number"),
+        wrong::OTHER_SUBCOMMAND => text(rt, page, more, b" is no subcommand"),
+        wrong::NO_OPTION => text(rt, page, more, b" is no option"),
+        wrong::TOO_MANY => text(rt, page, more, b" is one word too many"),
+        _ => text(rt, page, more, b" is no number"),
     }
 }
 
 // What is wrong with an option.
-fn of_option(page: &mut [u8; PAGE], told: Told, found: Wrong) -> Told {
+fn of_option(rt: &(impl Env + Print), page: &mut [u8; PAGE], told: Told, found: Wrong) -> Told {
     let what = found.what;
     if what == wrong::TWICE {
-        let more = option(page, told, found.at);
-        return text(page, more, b" stands twice");
+        let more = option(rt, page, told, found.at);
+        return text(rt, page, more, b" stands twice");
     }
     if what == wrong::NOT_TAKEN {
-        let more = subcommand(page, told);
-        let then = text(page, more, b" takes no ");
-        return option(page, then, found.at);
+        let more = subcommand(rt, page, told);
+        let then = text(rt, page, more, b" takes no ");
+        return option(rt, page, then, found.at);
     }
-    let more = text(page, told, b"nothing follows ");
-    option(page, more, found.at)
+    let more = text(rt, page, told, b"nothing follows ");
+    option(rt, page, more, found.at)
 }
 
 // What is wrong.
-fn what(page: &mut [u8; PAGE], told: Told, found: Wrong) -> Told {
+fn what(rt: &(impl Env + Print), page: &mut [u8; PAGE], told: Told, found: Wrong) -> Told {
     let what = found.what;
     match what {
-        wrong::NO_SUBCOMMAND => text(page, told, b"no subcommand"),
-        wrong::NOTHING_FOLLOWS => of_option(page, told, found),
-        wrong::TWICE => of_option(page, told, found),
-        wrong::NOT_TAKEN => of_option(page, told, found),
-        wrong::MISSING => text(page, told, b"a word is missing"),
-        wrong::TWO_STANDARD => text(page, told, b"- stands for two files that are read"),
+        wrong::NO_SUBCOMMAND => text(rt, page, told, b"no subcommand"),
+        wrong::NOTHING_FOLLOWS => of_option(rt, page, told, found),
+        wrong::TWICE => of_option(rt, page, told, found),
+        wrong::NOT_TAKEN => of_option(rt, page, told, found),
+        wrong::MISSING => text(rt, page, told, b"a word is missing"),
+        wrong::TWO_STANDARD => text(rt, page, told, b"- stands for two files that are read"),
         wrong::TOO_LONG => {
-            let more = counted(page, told, b"argument ", found.at);
-            text(page, more, b" is longer than 4096 bytes")
+            let more = counted(rt, page, told, b"argument ", found.at);
+            text(rt, page, more, b" is longer than 4096 bytes")
         }
-        _ => of_argument(page, told, found),
+        _ => of_argument(rt, page, told, found),
     }
 }
 
 // There is a subcommand whose use can be shown.
-fn has_use(line: Line, found: Wrong) -> bool {
+fn has_use(rt: &impl Env, line: Line, found: Wrong) -> bool {
     if found.what == wrong::OTHER_SUBCOMMAND {
         return false;
     }
-    match command_line::shape::command(line, 0) {
+    match command_line::shape::command(rt, line, 0) {
         Command::Other => false,
         _ => true,
     }
 }
 
 // Tells what is wrong, and how to see the use. The exit status.
-pub fn tell(page: &mut [u8; PAGE], line: Line, found: Wrong) -> u8 {
-    let mut more = text(page, telling::to(libc::STDERR_FILENO), b"remi: ");
-    more = what(page, more, found);
-    more = text(page, more, b"; see remi help");
-    if has_use(line, found) {
-        more = text(page, more, b" ");
-        more = subcommand(page, more);
+pub fn tell(rt: &(impl Env + Print), page: &mut [u8; PAGE], line: Line, found: Wrong) -> u8 {
+    let mut more = text(rt, page, telling::to(files::STDERR_FILENO), b"remi: ");
+    more = what(rt, page, more, found);
+    more = text(rt, page, more, b"; see remi help");
+    if has_use(rt, line, found) {
+        more = text(rt, page, more, b" ");
+        more = subcommand(rt, page, more);
     }
-    more = text(page, more, b"\n");
-    telling::finish(page, more, statuses::TROUBLE)
+    more = text(rt, page, more, b"\n");
+    telling::finish(rt, page, more, statuses::TROUBLE)
 }

@@ -4,6 +4,10 @@ use command_line::Line;
 use file_facts::Facts;
 use files::{Inputs, Loaded};
 use replies::Profile;
+use std::io::{Input, Print};
+use std::os::fd::AsFd;
+use std::random::RandomSource;
+use std::rt::{Clock, Env, Files};
 
 // No file has been read.
 pub fn no_inputs() -> Inputs {
@@ -27,7 +31,7 @@ pub fn with_table(inputs: Inputs, table: Facts) -> Inputs {
 
 // The table that a profile is used with: the one in the file that -t names, or one built for the
 // profile. How many limbs it has.
-pub fn table(line: Line, p: Profile, limbs: &mut [u64]) -> Loaded {
+pub fn table(rt: &(impl Files + Env + Input), line: Line, p: Profile, limbs: &mut [u64]) -> Loaded {
     if line.table == 0 {
         tables::build(p, limbs);
         return Loaded {
@@ -37,21 +41,31 @@ pub fn table(line: Line, p: Profile, limbs: &mut [u64]) -> Loaded {
         };
     }
     let mut name = io::buffer();
-    let n = os::arg(line.table, &mut name);
-    files::table::load(&name[..n], limbs)
+    let n = command_line::arg(rt, line.table, &mut name);
+    files::table::load(rt, &name[..n], limbs)
 }
 
 // Writes the first so many bytes of an output to the file that word k names, where there is one. Whether
 // that is done.
-pub fn output(job: Job, k: usize, bytes: &[u8], count: usize) -> bool {
+pub fn output<R: Files + Env + Print + Clock + RandomSource>(
+    rt: &R,
+    job: Job,
+    k: usize,
+    bytes: &[u8],
+    count: usize,
+) -> bool
+where
+    R::File: AsFd,
+{
     let line = job.line;
     if line.count <= k {
         return true;
     }
     let inputs = job.inputs;
     let mut name = io::buffer();
-    let n = command_line::word(k, &mut name);
+    let n = command_line::word(rt, k, &mut name);
     files::saving::save(
+        rt,
         &name[..n],
         parts::first_cells(bytes, count),
         line.over,

@@ -1,6 +1,8 @@
 // What is told, as text: it is gathered on a page and written out with the page full and at the end.
 use command_line::Line;
 use replies::Reply;
+use std::io::Print;
+use std::rt::Env;
 
 // Where it is told, how many bytes of the page are filled, and whether all before could be written.
 #[derive(Clone, Copy)]
@@ -26,28 +28,28 @@ pub fn to(fd: i32) -> Told {
 }
 
 // The beginning: standard output, or standard error where word k, the output, is -.
-pub fn begin(line: Line, k: usize) -> Told {
-    if command_line::is_word(line, k, b"-") {
-        return to(libc::STDERR_FILENO);
+pub fn begin(rt: &impl Env, line: Line, k: usize) -> Told {
+    if command_line::is_word(rt, line, k, b"-") {
+        return to(files::STDERR_FILENO);
     }
-    to(libc::STDOUT_FILENO)
+    to(files::STDOUT_FILENO)
 }
 
 // Writes the page out; nothing more once something could not be written.
-pub fn flush(page: &[u8; PAGE], told: Told) -> Told {
+pub fn flush(rt: &impl Print, page: &[u8; PAGE], told: Told) -> Told {
     let mut more = told;
     more.at = 0;
     if told.whole {
-        more.whole = files::tell(told.to, parts::first_cells(page, told.at));
+        more.whole = files::tell(rt, told.to, parts::first_cells(page, told.at));
     }
     more
 }
 
 // One byte more.
-fn byte(page: &mut [u8; PAGE], told: Told, b: u8) -> Told {
+fn byte(rt: &impl Print, page: &mut [u8; PAGE], told: Told, b: u8) -> Told {
     let mut more = told;
     if PAGE <= told.at {
-        more = flush(page, told);
+        more = flush(rt, page, told);
     }
     let at = more.at;
     if at < PAGE {
@@ -58,53 +60,66 @@ fn byte(page: &mut [u8; PAGE], told: Told, b: u8) -> Told {
 }
 
 // Some text.
-pub fn text(page: &mut [u8; PAGE], told: Told, t: &[u8]) -> Told {
+pub fn text(rt: &impl Print, page: &mut [u8; PAGE], told: Told, t: &[u8]) -> Told {
     let mut more = told;
     for i in 0..t.len() {
-        more = byte(page, more, t[i]);
+        more = byte(rt, page, more, t[i]);
     }
     more
 }
 
 // A number.
-pub fn number(page: &mut [u8; PAGE], told: Told, n: usize) -> Told {
+pub fn number(rt: &impl Print, page: &mut [u8; PAGE], told: Told, n: usize) -> Told {
     let mut digits = [0u8; 20];
     let k = io::decimal(n as u64, &mut digits);
-    text(page, told, &digits[..k])
+    text(rt, page, told, &digits[..k])
 }
 
 // A number with words before it.
-pub fn counted(page: &mut [u8; PAGE], told: Told, before: &[u8], n: usize) -> Told {
-    let more = text(page, told, before);
-    number(page, more, n)
+pub fn counted(
+    rt: &impl Print,
+    page: &mut [u8; PAGE],
+    told: Told,
+    before: &[u8],
+    n: usize,
+) -> Told {
+    let more = text(rt, page, told, before);
+    number(rt, page, more, n)
 }
 
 // A number at the right end of a column.
-pub fn column(page: &mut [u8; PAGE], told: Told, n: usize, width: usize) -> Told {
+pub fn column(rt: &impl Print, page: &mut [u8; PAGE], told: Told, n: usize, width: usize) -> Told {
     let mut digits = [0u8; 20];
     let k = io::decimal(n as u64, &mut digits);
     let mut more = told;
     for _ in k..width {
-        more = byte(page, more, b' ');
+        more = byte(rt, page, more, b' ');
     }
-    text(page, more, &digits[..k])
+    text(rt, page, more, &digits[..k])
 }
 
 // How much there is of a for each of b, with four places, or what stands for none.
-pub fn figure(page: &mut [u8; PAGE], told: Told, a: usize, b: usize, none: &[u8]) -> Told {
+pub fn figure(
+    rt: &impl Print,
+    page: &mut [u8; PAGE],
+    told: Told,
+    a: usize,
+    b: usize,
+    none: &[u8],
+) -> Told {
     let mut digits = [0u8; 16];
     let n = quotients::spell(a, b, &mut digits);
     if n == 0 {
-        return text(page, told, none);
+        return text(rt, page, told, none);
     }
-    text(page, told, &digits[..n])
+    text(rt, page, told, &digits[..n])
 }
 
 // The number that ten limbs hold.
-pub fn large(page: &mut [u8; PAGE], told: Told, limbs: [u64; 10]) -> Told {
+pub fn large(rt: &impl Print, page: &mut [u8; PAGE], told: Told, limbs: [u64; 10]) -> Told {
     let mut digits = [0u8; 193];
     let n = decimals::spell(limbs, &mut digits);
-    text(page, told, &digits[..n])
+    text(rt, page, told, &digits[..n])
 }
 
 // A level as a number.
@@ -113,54 +128,72 @@ fn wide(level: u8) -> usize {
 }
 
 // Levels, joined by commas.
-pub fn levels(page: &mut [u8; PAGE], told: Told, cells: &[u8]) -> Told {
+pub fn levels(rt: &impl Print, page: &mut [u8; PAGE], told: Told, cells: &[u8]) -> Told {
     let mut more = told;
     for i in 0..cells.len() {
         if 0 < i {
-            more = text(page, more, b",");
+            more = text(rt, page, more, b",");
         }
-        more = number(page, more, wide(cells[i]));
+        more = number(rt, page, more, wide(cells[i]));
     }
     more
 }
 
 // The name of a file as it is printed, or what stands for the name -.
-pub fn name(page: &mut [u8; PAGE], told: Told, name: &[u8], standard: &[u8]) -> Told {
+pub fn name(
+    rt: &impl Print,
+    page: &mut [u8; PAGE],
+    told: Told,
+    name: &[u8],
+    standard: &[u8],
+) -> Told {
     if files::is_standard(name) {
-        return text(page, told, standard);
+        return text(rt, page, told, standard);
     }
     let mut printed = [0u8; PRINTED];
     let n = names::escape(name, &mut printed);
-    text(page, told, &printed[..n])
+    text(rt, page, told, &printed[..n])
 }
 
 // The end of a line: the file that was written, where word k names one.
-pub fn end(page: &mut [u8; PAGE], told: Told, line: Line, k: usize) -> Told {
+pub fn end(
+    rt: &(impl Env + Print),
+    page: &mut [u8; PAGE],
+    told: Told,
+    line: Line,
+    k: usize,
+) -> Told {
     let mut more = told;
     if k < line.count {
         let mut output = io::buffer();
-        let n = command_line::word(k, &mut output);
-        more = text(page, more, b", in ");
-        more = name(page, more, &output[..n], b"standard output");
+        let n = command_line::word(rt, k, &mut output);
+        more = text(rt, page, more, b", in ");
+        more = name(rt, page, more, &output[..n], b"standard output");
     }
-    text(page, more, b"\n")
+    text(rt, page, more, b"\n")
 }
 
 // A refusal.
-pub fn refusal(page: &mut [u8; PAGE], told: Told, reply: Reply) -> Told {
+pub fn refusal(rt: &impl Print, page: &mut [u8; PAGE], told: Told, reply: Reply) -> Told {
     let mut words = [0u8; outcomes::REPLY_BYTES];
     let count = outcomes::reply_text(reply, &mut words).count;
-    text(page, told, parts::first_cells(&words, count))
+    text(rt, page, told, parts::first_cells(&words, count))
 }
 
 // The last: the page is written out. The exit status.
-pub fn finish(page: &[u8; PAGE], told: Told, status: u8) -> u8 {
-    let all = flush(page, told);
+pub fn finish(rt: &impl Print, page: &[u8; PAGE], told: Told, status: u8) -> u8 {
+    let all = flush(rt, page, told);
     statuses::told(status, all.whole)
 }
 
 // The end of the line of a call that is done, with the file that word k names. The exit status.
-pub fn done(page: &mut [u8; PAGE], told: Told, line: Line, k: usize) -> u8 {
-    let more = end(page, told, line, k);
-    finish(page, more, statuses::DONE)
+pub fn done(
+    rt: &(impl Env + Print),
+    page: &mut [u8; PAGE],
+    told: Told,
+    line: Line,
+    k: usize,
+) -> u8 {
+    let more = end(rt, page, told, line, k);
+    finish(rt, page, more, statuses::DONE)
 }

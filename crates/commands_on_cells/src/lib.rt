@@ -10,6 +10,10 @@ use files::Inputs;
 use files::table::LIMBS;
 use parts::{first_cells, first_limbs};
 use replies::{DONE, Profile, Reply};
+use std::io::{Input, Print};
+use std::os::fd::AsFd;
+use std::random::RandomSource;
+use std::rt::{Clock, Env, Files};
 
 pub mod check;
 mod joining;
@@ -22,13 +26,23 @@ const CELLS: usize = replies::MOST_CELLS + 1;
 const BYTES: usize = 20448;
 
 // Runs a subcommand on the file of cells that stands behind the profile.
-pub fn run(page: &mut [u8; PAGE], told: Told, line: Line, command: Command, asked: Asked) -> u8 {
+pub fn run<R: Files + Env + Input + Print + Clock + RandomSource>(
+    rt: &R,
+    page: &mut [u8; PAGE],
+    told: Told,
+    line: Line,
+    command: Command,
+    asked: Asked,
+) -> u8
+where
+    R::File: AsFd,
+{
     let mut name = io::buffer();
-    let n = command_line::word(asked.next as usize, &mut name);
+    let n = command_line::word(rt, asked.next as usize, &mut name);
     let mut cells = [0u8; CELLS];
-    let loaded = files::load(&name[..n], &mut cells);
+    let loaded = files::load(rt, &name[..n], &mut cells);
     if !loaded.done {
-        return refusals::trouble(page, told, line, &name[..n]);
+        return refusals::trouble(rt, page, told, line, &name[..n]);
     }
     let first = loaded.facts;
     let job = Job {
@@ -41,6 +55,7 @@ pub fn run(page: &mut [u8; PAGE], told: Told, line: Line, command: Command, aske
         },
     };
     carry_out(
+        rt,
         page,
         told,
         job,
@@ -51,20 +66,24 @@ pub fn run(page: &mut [u8; PAGE], told: Told, line: Line, command: Command, aske
 }
 
 // Carries a subcommand out on cells.
-fn carry_out(
+fn carry_out<R: Files + Env + Input + Print + Clock + RandomSource>(
+    rt: &R,
     page: &mut [u8; PAGE],
     told: Told,
     job: Job,
     command: Command,
     name: &[u8],
     cells: &[u8],
-) -> u8 {
+) -> u8
+where
+    R::File: AsFd,
+{
     match command {
-        Command::Read => read(page, told, job, name, cells),
-        Command::Index => index(page, told, job, name, cells),
-        Command::Turn => turn(page, told, job, name, cells),
-        Command::Join => joining::join(page, told, job, name, cells),
-        _ => find(page, told, job, name, cells),
+        Command::Read => read(rt, page, told, job, name, cells),
+        Command::Index => index(rt, page, told, job, name, cells),
+        Command::Turn => turn(rt, page, told, job, name, cells),
+        Command::Join => joining::join(rt, page, told, job, name, cells),
+        _ => find(rt, page, told, job, name, cells),
     }
 }
 
@@ -89,16 +108,27 @@ fn with_table(job: Job, table: file_facts::Facts) -> Job {
 }
 
 // Reads a stream, with a table.
-fn read(page: &mut [u8; PAGE], told: Told, job: Job, name: &[u8], cells: &[u8]) -> u8 {
+fn read<R: Files + Env + Input + Print + Clock + RandomSource>(
+    rt: &R,
+    page: &mut [u8; PAGE],
+    told: Told,
+    job: Job,
+    name: &[u8],
+    cells: &[u8],
+) -> u8
+where
+    R::File: AsFd,
+{
     let line = job.line;
     let asked = job.asked;
     let mut limbs = [0u64; LIMBS];
-    let table = lending::table(line, asked.profile, &mut limbs);
+    let table = lending::table(rt, line, asked.profile, &mut limbs);
     if !table.done {
-        return refusals::table(page, told, line);
+        return refusals::table(rt, page, told, line);
     }
     let facts = table.facts;
     read_with(
+        rt,
         page,
         told,
         with_table(job, facts),
@@ -109,137 +139,191 @@ fn read(page: &mut [u8; PAGE], told: Told, job: Job, name: &[u8], cells: &[u8]) 
 }
 
 // Reads a stream, and tells what came of it.
-fn read_with(
+fn read_with<R: Files + Env + Print + Clock + RandomSource>(
+    rt: &R,
     page: &mut [u8; PAGE],
     told: Told,
     job: Job,
     table: &[u64],
     name: &[u8],
     cells: &[u8],
-) -> u8 {
+) -> u8
+where
+    R::File: AsFd,
+{
     let line = job.line;
     let asked = job.asked;
     let mut bytes = [0u8; BYTES];
     let read = read_stream::read(asked.profile, table, cells, &mut bytes);
     let reply = read.reply;
     if reply.number != DONE {
-        return refusals::cells(page, told, job, true, reply, name, cells);
+        return refusals::cells(rt, page, told, job, true, reply, name, cells);
     }
     let to = asked.next as usize + 1;
-    if !lending::output(job, to, &bytes, bytes_of(read.count)) {
-        return refusals::output(page, told, line, to);
+    if !lending::output(rt, job, to, &bytes, bytes_of(read.count)) {
+        return refusals::output(rt, page, told, line, to);
     }
     if line.json {
-        let object = object_of_read(page, told, reply, cells.len(), read.count);
-        return end_object(page, object, line, name, to);
+        let object = object_of_read(rt, page, told, reply, cells.len(), read.count);
+        return end_object(rt, page, object, line, name, to);
     }
-    let mut more = text(page, told, b"done: ");
-    more = line_of_read(page, more, cells.len(), read.count);
-    telling::done(page, more, line, to)
+    let mut more = text(rt, page, told, b"done: ");
+    more = line_of_read(rt, page, more, cells.len(), read.count);
+    telling::done(rt, page, more, line, to)
 }
 
 // The end of the object of a call that is done: the input, the output and the table. The exit status.
-fn end_object(page: &mut [u8; PAGE], told: Told, line: Line, name: &[u8], to: usize) -> u8 {
-    let more = json::name(page, told, b"input", name);
-    json::done(page, more, line, to)
+fn end_object(
+    rt: &(impl Env + Print),
+    page: &mut [u8; PAGE],
+    told: Told,
+    line: Line,
+    name: &[u8],
+    to: usize,
+) -> u8 {
+    let more = json::name(rt, page, told, b"input", name);
+    json::done(rt, page, more, line, to)
 }
 
 // How many cells were read as how many bits.
-fn line_of_read(page: &mut [u8; PAGE], told: Told, cells: usize, bits: usize) -> Told {
-    let mut more = telling::number(page, told, cells);
-    more = counted(page, more, b" cells read as ", bits);
-    text(page, more, b" bits")
+fn line_of_read(
+    rt: &impl Print,
+    page: &mut [u8; PAGE],
+    told: Told,
+    cells: usize,
+    bits: usize,
+) -> Told {
+    let mut more = telling::number(rt, page, told, cells);
+    more = counted(rt, page, more, b" cells read as ", bits);
+    text(rt, page, more, b" bits")
 }
 
 // The same, as the beginning of an object.
 fn object_of_read(
+    rt: &(impl Env + Print),
     page: &mut [u8; PAGE],
     told: Told,
     reply: Reply,
     cells: usize,
     bits: usize,
 ) -> Told {
-    let more = object_of_cells(page, told, reply, cells);
-    json::number(page, more, b"bits", bits)
+    let more = object_of_cells(rt, page, told, reply, cells);
+    json::number(rt, page, more, b"bits", bits)
 }
 
 // Tells the index of a word.
-fn index(page: &mut [u8; PAGE], told: Told, job: Job, name: &[u8], cells: &[u8]) -> u8 {
+fn index(
+    rt: &(impl Files + Env + Input + Print),
+    page: &mut [u8; PAGE],
+    told: Told,
+    job: Job,
+    name: &[u8],
+    cells: &[u8],
+) -> u8 {
     let line = job.line;
     let asked = job.asked;
     let mut limbs = [0u64; LIMBS];
-    let table = lending::table(line, asked.profile, &mut limbs);
+    let table = lending::table(rt, line, asked.profile, &mut limbs);
     if !table.done {
-        return refusals::table(page, told, line);
+        return refusals::table(rt, page, told, line);
     }
     let indexed = index_of_word::index(asked.profile, first_limbs(&limbs, table.count), cells);
     let reply = indexed.reply;
     if reply.number != DONE {
-        return refusals::cells(page, told, job, false, reply, name, cells);
+        return refusals::cells(rt, page, told, job, false, reply, name, cells);
     }
     let index = indexed.index;
     let limbs = index.0;
     if line.json {
-        let object = object_of_index(page, told, reply, limbs);
-        return end_object(page, object, line, name, NO_OUTPUT);
+        let object = object_of_index(rt, page, told, reply, limbs);
+        return end_object(rt, page, object, line, name, NO_OUTPUT);
     }
-    let mut more = text(page, told, b"done: index ");
-    more = telling::large(page, more, limbs);
-    telling::done(page, more, line, NO_OUTPUT)
+    let mut more = text(rt, page, told, b"done: index ");
+    more = telling::large(rt, page, more, limbs);
+    telling::done(rt, page, more, line, NO_OUTPUT)
 }
 
 // The beginning of an object with an index.
-fn object_of_index(page: &mut [u8; PAGE], told: Told, reply: Reply, limbs: [u64; 10]) -> Told {
-    let mut more = json::reply(page, told, reply);
-    more = json::key(page, more, b"index", b"\"");
-    more = telling::large(page, more, limbs);
-    text(page, more, b"\"")
+fn object_of_index(
+    rt: &(impl Env + Print),
+    page: &mut [u8; PAGE],
+    told: Told,
+    reply: Reply,
+    limbs: [u64; 10],
+) -> Told {
+    let mut more = json::reply(rt, page, told, reply);
+    more = json::key(rt, page, more, b"index", b"\"");
+    more = telling::large(rt, page, more, limbs);
+    text(rt, page, more, b"\"")
 }
 
 // Turns a stream, and tells what came of it.
-fn turn(page: &mut [u8; PAGE], told: Told, job: Job, name: &[u8], cells: &[u8]) -> u8 {
+fn turn<R: Files + Env + Print + Clock + RandomSource>(
+    rt: &R,
+    page: &mut [u8; PAGE],
+    told: Told,
+    job: Job,
+    name: &[u8],
+    cells: &[u8],
+) -> u8
+where
+    R::File: AsFd,
+{
     let line = job.line;
     let asked = job.asked;
     let mut other = [0u8; CELLS];
     let turned = join_streams::turn(asked.profile, cells, &mut other);
     let reply = turned.reply;
     if reply.number != DONE {
-        return refusals::cells(page, told, job, true, reply, name, cells);
+        return refusals::cells(rt, page, told, job, true, reply, name, cells);
     }
     let to = asked.next as usize + 1;
-    if !lending::output(job, to, &other, turned.count) {
-        return refusals::output(page, told, line, to);
+    if !lending::output(rt, job, to, &other, turned.count) {
+        return refusals::output(rt, page, told, line, to);
     }
     if line.json {
-        let object = object_of_cells(page, told, reply, turned.count);
-        return end_object(page, object, line, name, to);
+        let object = object_of_cells(rt, page, told, reply, turned.count);
+        return end_object(rt, page, object, line, name, to);
     }
-    let mut more = counted(page, told, b"done: ", turned.count);
-    more = text(page, more, b" cells turned");
-    telling::done(page, more, line, to)
+    let mut more = counted(rt, page, told, b"done: ", turned.count);
+    more = text(rt, page, more, b" cells turned");
+    telling::done(rt, page, more, line, to)
 }
 
 // The beginning of an object on a call with so many cells.
-fn object_of_cells(page: &mut [u8; PAGE], told: Told, reply: Reply, cells: usize) -> Told {
-    let more = json::reply(page, told, reply);
-    json::number(page, more, b"cells", cells)
+fn object_of_cells(
+    rt: &(impl Env + Print),
+    page: &mut [u8; PAGE],
+    told: Told,
+    reply: Reply,
+    cells: usize,
+) -> Told {
+    let more = json::reply(rt, page, told, reply);
+    json::number(rt, page, more, b"cells", cells)
 }
 
 // Tells where the first forbidden pattern of a run of cells is.
-fn find(page: &mut [u8; PAGE], told: Told, job: Job, name: &[u8], run: &[u8]) -> u8 {
+fn find(
+    rt: &(impl Env + Print),
+    page: &mut [u8; PAGE],
+    told: Told,
+    job: Job,
+    name: &[u8],
+    run: &[u8],
+) -> u8 {
     let line = job.line;
     let p = profile_of(job);
     let reply = cells::find(p.q, p.x, run);
     if reply.number != DONE {
-        return refusals::cells(page, told, job, false, reply, name, run);
+        return refusals::cells(rt, page, told, job, false, reply, name, run);
     }
     if line.json {
-        let object = object_of_cells(page, told, reply, run.len());
-        return end_object(page, object, line, name, NO_OUTPUT);
+        let object = object_of_cells(rt, page, told, reply, run.len());
+        return end_object(rt, page, object, line, name, NO_OUTPUT);
     }
-    let mut more = counted(page, told, b"done: no forbidden pattern in ", run.len());
-    more = text(page, more, b" cells");
-    telling::done(page, more, line, NO_OUTPUT)
+    let mut more = counted(rt, page, told, b"done: no forbidden pattern in ", run.len());
+    more = text(rt, page, more, b" cells");
+    telling::done(rt, page, more, line, NO_OUTPUT)
 }
 
 // The profile of a job.

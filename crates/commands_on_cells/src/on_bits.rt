@@ -7,21 +7,34 @@ use files::Inputs;
 use files::table::LIMBS;
 use parts::{first_cells, first_limbs};
 use replies::{DONE, Profile, Reply};
+use std::io::{Input, Print};
+use std::os::fd::AsFd;
+use std::random::RandomSource;
+use std::rt::{Clock, Env, Files};
 
 // Loads the bytes and the table, and writes the bits.
-pub fn write(page: &mut [u8; PAGE], told: Told, line: Line, asked: Asked) -> u8 {
+pub fn write<R: Files + Env + Input + Print + Clock + RandomSource>(
+    rt: &R,
+    page: &mut [u8; PAGE],
+    told: Told,
+    line: Line,
+    asked: Asked,
+) -> u8
+where
+    R::File: AsFd,
+{
     let mut buf = io::buffer();
-    let n = command_line::word(asked.next as usize, &mut buf);
+    let n = command_line::word(rt, asked.next as usize, &mut buf);
     let name = &buf[..n];
     let mut bytes = [0u8; BYTES + 1];
-    let message = files::load(name, &mut bytes);
+    let message = files::load(rt, name, &mut bytes);
     if !message.done {
-        return refusals::trouble(page, told, line, name);
+        return refusals::trouble(rt, page, told, line, name);
     }
     let mut limbs = [0u64; LIMBS];
-    let lent = lending::table(line, asked.profile, &mut limbs);
+    let lent = lending::table(rt, line, asked.profile, &mut limbs);
     if !lent.done {
-        return refusals::table(page, told, line);
+        return refusals::table(rt, page, told, line);
     }
     let first = message.facts;
     let table = lent.facts;
@@ -35,6 +48,7 @@ pub fn write(page: &mut [u8; PAGE], told: Told, line: Line, asked: Asked) -> u8 
         },
     };
     write_bits(
+        rt,
         page,
         told,
         job,
@@ -45,10 +59,10 @@ pub fn write(page: &mut [u8; PAGE], told: Told, line: Line, asked: Asked) -> u8 
 }
 
 // How many bits are written: as many as were asked for, or as the file holds.
-fn bits_of(job: Job, table: &[u64], bytes: usize) -> usize {
+fn bits_of(rt: &impl Env, job: Job, table: &[u64], bytes: usize) -> usize {
     let line = job.line;
     if 0 < line.bits {
-        let typed = command_line::number_at(line.bits);
+        let typed = command_line::number_at(rt, line.bits);
         return typed.value as usize;
     }
     let asked = job.asked;
@@ -75,52 +89,58 @@ fn bits_in(p: Profile, table: &[u64], bytes: usize) -> usize {
 }
 
 // Writes bits, and tells what came of it.
-fn write_bits(
+fn write_bits<R: Files + Env + Print + Clock + RandomSource>(
+    rt: &R,
     page: &mut [u8; PAGE],
     told: Told,
     job: Job,
     table: &[u64],
     name: &[u8],
     bytes: &[u8],
-) -> u8 {
+) -> u8
+where
+    R::File: AsFd,
+{
     let line = job.line;
     let asked = job.asked;
-    let bits = bits_of(job, table, bytes.len());
+    let bits = bits_of(rt, job, table, bytes.len());
     let mut cells = [0u8; CELLS];
     let written = write_stream::write(asked.profile, table, bytes, bits, &mut cells);
     let reply = written.reply;
     if reply.number != DONE {
-        return refused(page, told, line, reply, name, bytes.len());
+        return refused(rt, page, told, line, reply, name, bytes.len());
     }
     let to = asked.next as usize + 1;
-    if !lending::output(job, to, &cells, written.count) {
-        return refusals::output(page, told, line, to);
+    if !lending::output(rt, job, to, &cells, written.count) {
+        return refusals::output(rt, page, told, line, to);
     }
     if line.json {
-        let object = object_of_write(page, told, reply, bits, written.count);
-        return crate::end_object(page, object, line, name, to);
+        let object = object_of_write(rt, page, told, reply, bits, written.count);
+        return crate::end_object(rt, page, object, line, name, to);
     }
-    let mut more = counted(page, told, b"done: ", bits);
-    more = counted(page, more, b" bits written as ", written.count);
-    more = text(page, more, b" cells");
-    telling::done(page, more, line, to)
+    let mut more = counted(rt, page, told, b"done: ", bits);
+    more = counted(rt, page, more, b" bits written as ", written.count);
+    more = text(rt, page, more, b" cells");
+    telling::done(rt, page, more, line, to)
 }
 
 // The beginning of the object of bits that are written.
 fn object_of_write(
+    rt: &(impl Env + Print),
     page: &mut [u8; PAGE],
     told: Told,
     reply: Reply,
     bits: usize,
     cells: usize,
 ) -> Told {
-    let mut more = json::reply(page, told, reply);
-    more = json::number(page, more, b"bits", bits);
-    json::number(page, more, b"cells", cells)
+    let mut more = json::reply(rt, page, told, reply);
+    more = json::number(rt, page, more, b"bits", bits);
+    json::number(rt, page, more, b"cells", cells)
 }
 
 // Tells that bits are refused.
 fn refused(
+    rt: &(impl Env + Print),
     page: &mut [u8; PAGE],
     told: Told,
     line: Line,
@@ -129,17 +149,18 @@ fn refused(
     bytes: usize,
 ) -> u8 {
     let more = if line.json {
-        object_of_refusal(page, told, line, reply, name, bytes)
+        object_of_refusal(rt, page, told, line, reply, name, bytes)
     } else {
-        let more = telling::refusal(page, told, reply);
-        let then = text(page, more, b"\n");
-        refusals::length(page, then, reply, name, bytes, BYTES, b" bytes\n")
+        let more = telling::refusal(rt, page, told, reply);
+        let then = text(rt, page, more, b"\n");
+        refusals::length(rt, page, then, reply, name, bytes, BYTES, b" bytes\n")
     };
-    telling::finish(page, more, statuses::of_reply(reply))
+    telling::finish(rt, page, more, statuses::of_reply(reply))
 }
 
 // The same, as an object.
 fn object_of_refusal(
+    rt: &(impl Env + Print),
     page: &mut [u8; PAGE],
     told: Told,
     line: Line,
@@ -147,9 +168,9 @@ fn object_of_refusal(
     name: &[u8],
     bytes: usize,
 ) -> Told {
-    let mut more = json::reply(page, told, reply);
-    more = json::length(page, more, b"bytes", bytes, BYTES);
-    more = json::name(page, more, b"input", name);
-    more = json::table(page, more, line);
-    json::end(page, more)
+    let mut more = json::reply(rt, page, told, reply);
+    more = json::length(rt, page, more, b"bytes", bytes, BYTES);
+    more = json::name(rt, page, more, b"input", name);
+    more = json::table(rt, page, more, line);
+    json::end(rt, page, more)
 }

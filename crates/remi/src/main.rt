@@ -1,6 +1,8 @@
-// The bench program as rt links it, which has no exit status of its own: c/remi.c starts the same with it.
+// The bench program: its exit status is what `remi_status` answers.
 #![tactic(auto)]
 
-fn main() {
-    remi_status::remi_status();
+use std::process::ExitCode;
+
+fn main(rt: HostRuntime) -> ExitCode {
+    ExitCode::from(remi_status::remi_status(&rt))
 }

@@ -5,82 +5,106 @@
 use command_line::{Asked, Command, Line, shape, wrong};
 use commands::telling::{PAGE, Told};
 use commands::{faults, refusals, telling};
+use std::io::{Input, Print};
+use std::os::fd::AsFd;
+use std::random::RandomSource;
+use std::rt::{Clock, Env, Files};
 
 mod help;
 
 // Runs the program. The exit status: 0 done, 1 refused, 2 a wrong command line or trouble with a file.
-#[unsafe(no_mangle)]
-pub extern "C" fn remi_status() -> u8 {
+pub fn remi_status<R: Files + Env + Input + Print + Clock + RandomSource>(rt: &R) -> u8
+where
+    R::File: AsFd,
+{
     let mut page = [0u8; PAGE];
-    let line = command_line::started();
+    let line = command_line::started(rt);
     let found = line.wrong;
     if found.what != wrong::NOTHING {
-        return faults::tell(&mut page, line, found);
+        return faults::tell(rt, &mut page, line, found);
     }
     if line.help {
-        return help_asked(&mut page, line, 0);
+        return help_asked(rt, &mut page, line, 0);
     }
     if line.version {
-        return help::version(&mut page);
+        return help::version(rt, &mut page);
     }
     if line.count == 0 {
-        return faults::tell(&mut page, line, wrong::of(wrong::NO_SUBCOMMAND, 0));
+        return faults::tell(rt, &mut page, line, wrong::of(wrong::NO_SUBCOMMAND, 0));
     }
-    subcommand(&mut page, line, shape::command(line, 0))
+    subcommand(rt, &mut page, line, shape::command(rt, line, 0))
 }
 
 // Word k is no subcommand.
-fn no_subcommand(page: &mut [u8; PAGE], line: Line, k: usize) -> u8 {
-    let found = wrong::of(wrong::OTHER_SUBCOMMAND, command_line::argument(k));
-    faults::tell(page, line, found)
+fn no_subcommand(rt: &(impl Env + Print), page: &mut [u8; PAGE], line: Line, k: usize) -> u8 {
+    let found = wrong::of(wrong::OTHER_SUBCOMMAND, command_line::argument(rt, k));
+    faults::tell(rt, page, line, found)
 }
 
 // Tells the use of the subcommand that word k is, or of the program where there is no such word.
-fn help_asked(page: &mut [u8; PAGE], line: Line, k: usize) -> u8 {
+fn help_asked(rt: &(impl Env + Print), page: &mut [u8; PAGE], line: Line, k: usize) -> u8 {
     if line.count <= k {
-        return help::whole(page);
+        return help::whole(rt, page);
     }
-    let command = shape::command(line, k);
+    let command = shape::command(rt, line, k);
     match command {
-        Command::Other => no_subcommand(page, line, k),
-        _ => help::one(page, command),
+        Command::Other => no_subcommand(rt, page, line, k),
+        _ => help::one(rt, page, command),
     }
 }
 
 // Runs a subcommand, if the options and the words are those that it takes.
-fn subcommand(page: &mut [u8; PAGE], line: Line, command: Command) -> u8 {
+fn subcommand<R: Files + Env + Input + Print + Clock + RandomSource>(
+    rt: &R,
+    page: &mut [u8; PAGE],
+    line: Line,
+    command: Command,
+) -> u8
+where
+    R::File: AsFd,
+{
     let of_options = shape::options(line, command);
     match command {
-        Command::Other => return no_subcommand(page, line, 0),
+        Command::Other => return no_subcommand(rt, page, line, 0),
         _ => {}
     }
     if of_options.what != wrong::NOTHING {
-        return faults::tell(page, line, of_options);
+        return faults::tell(rt, page, line, of_options);
     }
-    let asked = command_line::asking(line, command);
-    let found = shape::words(line, command, asked);
+    let asked = command_line::asking(rt, line, command);
+    let found = shape::words(rt, line, command, asked);
     if found.what != wrong::NOTHING {
-        return faults::tell(page, line, found);
+        return faults::tell(rt, page, line, found);
     }
-    let told = telling::begin(line, shape::output(command, asked));
+    let told = telling::begin(rt, line, shape::output(command, asked));
     let reply = asked.reply;
     if reply.number != replies::DONE {
-        return refusals::row(page, told, line, reply);
+        return refusals::row(rt, page, told, line, reply);
     }
-    carry_out(page, told, line, command, asked)
+    carry_out(rt, page, told, line, command, asked)
 }
 
 // Carries a subcommand out.
-fn carry_out(page: &mut [u8; PAGE], told: Told, line: Line, command: Command, asked: Asked) -> u8 {
+fn carry_out<R: Files + Env + Input + Print + Clock + RandomSource>(
+    rt: &R,
+    page: &mut [u8; PAGE],
+    told: Told,
+    line: Line,
+    command: Command,
+    asked: Asked,
+) -> u8
+where
+    R::File: AsFd,
+{
     match command {
-        Command::Check => commands_on_cells::check::check(page, told, line, asked),
-        Command::Write => commands_on_cells::on_bits::write(page, told, line, asked),
-        Command::Table => commands_on_profiles::table(page, told, line, asked),
-        Command::Rate => commands_on_profiles::rate(page, told, line, asked),
-        Command::Word => commands_on_profiles::word(page, told, line, asked),
-        Command::Profiles => commands_on_profiles::profiles(page, told, line),
-        Command::List => commands_on_profiles::listing::list(page, told, line, asked.profile),
-        Command::Help => help_asked(page, line, 1),
-        _ => commands_on_cells::run(page, told, line, command, asked),
+        Command::Check => commands_on_cells::check::check(rt, page, told, line, asked),
+        Command::Write => commands_on_cells::on_bits::write(rt, page, told, line, asked),
+        Command::Table => commands_on_profiles::table(rt, page, told, line, asked),
+        Command::Rate => commands_on_profiles::rate(rt, page, told, line, asked),
+        Command::Word => commands_on_profiles::word(rt, page, told, line, asked),
+        Command::Profiles => commands_on_profiles::profiles(rt, page, told, line),
+        Command::List => commands_on_profiles::lists::list(rt, page, told, line, asked.profile),
+        Command::Help => help_asked(rt, page, line, 1),
+        _ => commands_on_cells::run(rt, page, told, line, command, asked),
     }
 }
