@@ -2,6 +2,7 @@
 // name - is standard input or standard output. What cannot be done is said in one line on standard error.
 #![tactic(auto)]
 
+ghost use Rattle.std.specs.Prelude.{◌≡◌};
 ghost use Rattle.io.specs.Counts.{IsPrefixLen};
 
 use file_facts::Facts;
