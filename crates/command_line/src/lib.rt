@@ -62,15 +62,20 @@ fn is_argument(rt: &impl Env, i: usize) -> bool {
     !matches!(rt.arg(i, &mut []), Err(FillError::NotPresent))
 }
 
+// The highest bit that a number of arguments can have.
+const HIGHEST: usize = 2147483648;
+
 // How many arguments there are, the program's own name among them. They are numbered without a gap, so each bit of
-// the count, the highest first, is set if there is an argument below the count with that bit.
+// the number, the highest first, is set if there are as many arguments as the number has with that bit.
 pub fn arg_count(rt: &impl Env) -> usize {
     let mut count: usize = 0;
-    for bit in (0..32).rev() {
-        let more = count.saturating_add(1 << bit);
+    let mut bit = HIGHEST;
+    for _ in 0..32 {
+        let more = count.saturating_add(bit);
         if is_argument(rt, more.saturating_sub(1)) {
             count = more;
         }
+        bit /= 2;
     }
     count
 }
