@@ -73,6 +73,8 @@ ABOUT_FILE(fstat)
 ABOUT_FILE(fstat64)
 CALL(int, __lxstat, (int of, const char *path, void *found), (of, path, found), int, const char *, void *)
 CALL(int, __fxstat, (int of, int file, void *found), (of, file, found), int, int, void *)
+CALL(int, statx, (int at, const char *path, int flags, unsigned wanted, void *found), (at, path, flags, wanted, found), int, const char *, int, unsigned,
+     void *)
 CALL(int, rename, (const char *from, const char *to), (from, to), const char *, const char *)
 CALL(int, mkdir, (const char *path, unsigned mode), (path, mode), const char *, unsigned)
 CALL(int, rmdir, (const char *path), (path), const char *)
