@@ -1,13 +1,12 @@
 # The bench program and the archive: `make` builds both, `make check` is the gate, `make install PREFIX=..` puts the program, the header, the
-# archive and a pkg-config file in place, and `make uninstall` takes them away. It needs rt and a C compiler, and nothing from outside.
+# archive and a pkg-config file in place, and `make uninstall` takes them away. It needs rt, and nothing from outside.
 PREFIX ?= /usr/local
 DESTDIR ?=
-CFLAGS ?= -O2
 INSTALL ?= install
 
 PLACE := $(DESTDIR)$(PREFIX)
 VERSION := $(shell sed -n 's/^version = "\(.*\)"$$/\1/p' rust/Cargo.toml)
-SOURCES := crates.txt $(shell find crates -type f)
+SOURCES := crates.txt $(shell find crates -name out -prune -o -type f -print)
 ARCHIVE := target/staticlib/libremizutogya.a
 
 .PHONY: all check install uninstall
@@ -15,16 +14,16 @@ ARCHIVE := target/staticlib/libremizutogya.a
 
 all: target/remi $(ARCHIVE)
 
-# The last line of rt says which archive of the kit the program is linked with besides.
-target/remi: c/remi.c $(SOURCES)
+# rt proves, builds and runs the program, and leaves it in the crate's out/.
+target/remi: $(SOURCES)
 	@mkdir -p target
-	rt staticlib remi_status > target/remi.log 2>&1 || { tail -n 20 target/remi.log; exit 1; }
-	$(CC) -std=c99 -Wall -Wextra -Werror $(CFLAGS) c/remi.c target/staticlib/libremi_status.a \
-	    $$(sed -n 's/.*; link \(.*\) beside it$$/\1/p' target/remi.log) -o $@
+	(cd crates/remi && rt run -- help) < /dev/null > target/remi.log 2>&1 || { tail -n 20 target/remi.log; exit 1; }
+	cp crates/remi/out/remi $@
 
 $(ARCHIVE): $(SOURCES)
-	@mkdir -p target
-	rt staticlib remizutogya > target/archive.log 2>&1 || { tail -n 20 target/archive.log; exit 1; }
+	@mkdir -p target/staticlib
+	(cd crates/remizutogya && rt lib) > target/archive.log 2>&1 || { tail -n 20 target/archive.log; exit 1; }
+	cp crates/remizutogya/out/libremizutogya.a $@
 
 check:
 	bash .ci/run
