@@ -1,6 +1,6 @@
 -- What is known of a file, and what that tells: whether two are one, whether one is regular, and which bits of its
 -- mode are kept.
-use Rattle.std.specs.Prelude.{Bool, true, false, ◌&&◌, ℕ, ◌/◌, ◌%◌, ◌==◌, Result, Ok, Err}
+use Rattle.std.specs.Prelude.{Bool, true, false, ◌&&◌, ℕ, ◌/◌, ◌%◌, eqb, Result, Ok, Err}
 use Rattle.std.specs.declared.io.Error.{Error}
 use Rattle.file_facts.specs.declared.Facts.{Facts}
 use Rattle.file_facts.specs.declared.Stat.{Stat}
@@ -32,11 +32,11 @@ facts_in (Err e) = nothing_known
 
 -- Both are found, on one device under one number.
 abbrev pub same_file : Facts → Facts → Bool
-same_file a b = (a.found && b.found) && ((a.device == b.device) && (a.number == b.number))
+same_file a b = (a.found && b.found) && (eqb a.device b.device && eqb a.number b.number)
 
 -- A file is found, and the four bits of its mode above the lowest twelve are 1000, which POSIX has for a regular file.
 abbrev pub is_regular : Facts → Bool
-is_regular a = a.found && (a.mode / 4096 % 16 == 8)
+is_regular a = a.found && eqb (a.mode / 4096 % 16) 8
 
 -- The lowest twelve bits of the mode: who may do what with the file.
 abbrev pub kept_mode : Facts → ℕ
