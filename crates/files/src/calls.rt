@@ -4,7 +4,7 @@ ghost use Rattle.std.specs.Io.{ReadsAtMost};
 use file_facts::Facts;
 use std::fs::{File, OpenFile, OpenOptions};
 use std::io;
-use std::io::{ErrorKind, Read};
+use std::io::{ErrorKind, Read, Write};
 use std::rt::Files;
 
 // So often an interrupted call is tried again.
@@ -57,6 +57,11 @@ pub fn unlink(rt: &impl Files, path: &[u8]) -> io::Result<()> {
 // Removes a folder with nothing in it.
 pub fn rmdir(rt: &impl Files, path: &[u8]) -> io::Result<()> {
     rt.remove_dir(file_facts::path(path)?)
+}
+
+// Writes all of some bytes.
+pub fn put(to: &mut impl Write, bytes: &[u8]) -> io::Result<()> {
+    to.write_all(bytes)
 }
 
 // Reads to the front of `buf` until it is full or the input ends. How many bytes that are.

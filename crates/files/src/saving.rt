@@ -194,7 +194,7 @@ fn keep_owner(file: &(impl OpenFile + AsFd), old: Facts) -> io::Result<()> {
 
 // Fills a new file, gives it mode and owner, and brings it to the disk.
 fn fill(file: &mut (impl Write + OpenFile + AsFd), content: &[u8], old: Facts) -> io::Result<()> {
-    file.write_all(content)?;
+    calls::put(file, content)?;
     keep_mode(file, old)?;
     keep_owner(file, old)?;
     calls::sync(file)
