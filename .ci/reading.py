@@ -197,7 +197,7 @@ def quoted(text):
 def lines_of_crates(root=ROOT):
     """The lines of crates.txt: from each crate to the crates and libraries named for it."""
     lines = (line.split("#")[0] for line in (root / "crates.txt").read_text().splitlines())
-    return {name.strip(): below.split() for name, below in (line.split(":") for line in lines if ":" in line)}
+    return {name.split()[0]: below.split() for name, below in (line.split(":") for line in lines if ":" in line)}
 
 
 def crates_under(name, root=ROOT):
