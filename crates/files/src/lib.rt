@@ -46,12 +46,7 @@ pub fn is_standard(name: &[u8]) -> bool {
 
 // Reads what is left of an open file, of which this is known, to the front of `buf`. One that is longer fills
 // `buf`.
-fn load_open(
-    input: &mut impl Read,
-    known: io::Result<Facts>,
-    name: &[u8],
-    buf: &mut [u8],
-) -> Loaded
+fn load_open(input: &mut impl Read, known: io::Result<Facts>, name: &[u8], buf: &mut [u8]) -> Loaded
     ensures { IsPrefixLen result.count buf.new }
 {
     let facts = match known {

@@ -9,13 +9,12 @@ use crate::paths::ROOM;
 use crate::{Inputs, STDOUT_FILENO, calls, paths, said};
 use file_facts::Facts;
 use std::fs::{OpenFile, Permissions};
-use std::io;
 use std::io::{ErrorKind, Print, Write};
 use std::os::fd::AsFd;
 use std::os::unix::fs::{PermissionsExt, fchown};
 use std::random::RandomSource;
 use std::rt::{Clock, Files};
-use std::thread;
+use std::{io, thread};
 
 // Nothing stands against writing a file.
 const FREE: u8 = 0;
@@ -121,15 +120,14 @@ fn make_folder(rt: &impl Files, folder: &[u8], own: &[u8]) -> io::Result<()> {
 
 // Another name may be free, or the call was interrupted.
 fn is_to_be_tried_again(error: io::Error) -> bool {
-    matches!(error.kind(), ErrorKind::AlreadyExists | ErrorKind::Interrupted)
+    matches!(
+        error.kind(),
+        ErrorKind::AlreadyExists | ErrorKind::Interrupted
+    )
 }
 
 // Makes a folder of a name that is free, and puts the name to the front of `own`. How many bytes it has.
-fn make_own(
-    rt: &(impl Files + RandomSource),
-    folder: &[u8],
-    own: &mut [u8],
-) -> io::Result<usize>
+fn make_own(rt: &(impl Files + RandomSource), folder: &[u8], own: &mut [u8]) -> io::Result<usize>
     ensures { ReadsAtMost result own.new }
 {
     for _ in 1..OWN_NAMES {
