@@ -4,7 +4,7 @@
 #![tactic(auto)]
 
 mod long;
-mod profiles;
+mod on_profiles;
 mod stream;
 mod table;
 mod texts;
@@ -25,8 +25,8 @@ fn case() {
         3 => word::index(&text, at),
         4 => word::word(&text, at),
         5 => word::find(&text, at),
-        6 => profiles::published(&text, at),
-        7 => profiles::rate(&text, at),
+        6 => on_profiles::published(&text, at),
+        7 => on_profiles::rate(&text, at),
         8 => stream::write(&text, at),
         9 => stream::read(&text, at),
         10 => stream::join(&text, at),
