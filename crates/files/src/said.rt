@@ -46,7 +46,7 @@ fn put_named(words: &[u8], name: &[u8], standard: &[u8], out: &mut [u8]) -> usiz
     add(out, at, &printed[..n])
 }
 
-// Puts the reason of an error behind the bytes at the front of `out`, in the system's words; std adds the number.
+// Puts the reason of an error behind the bytes at the front of `out`, in the system's words without its number.
 fn put_reason(error: Error, out: &mut [u8], at: usize) -> usize
     ensures { IsPrefixLen result out.new }
 {
