@@ -132,19 +132,11 @@ def mapping(top):
             made[a] += "_lem"
     for a in camel_locals(top) - set(made) - kit:
         made[a] = snake(a)
-    return {a: b for a, b in made.items() if a != b}, own, kit
+    return {a: b for a, b in made.items() if a != b}
 
 
-def turn_antt(text, names, fields_only_after_dot):
-    def one(m):
-        name = m[0]
-        if name not in names:
-            return name
-        if fields_only_after_dot and m.start() and text[m.start() - 1] == "." and name not in fields_only_after_dot:
-            return name
-        return names[name]
-
-    return NAME.sub(one, text)
+def turn_antt(text, names):
+    return NAME.sub(lambda m: names.get(m[0], m[0]), text)
 
 
 def ghost_spans(text):
@@ -164,36 +156,35 @@ def turn_source(text, names):
     for a, b in ghost_spans(text):
         if a < at:
             continue
-        out += text[at:a] + turn_antt(text[a:b], names, None)
+        out += text[at:a] + turn_antt(text[a:b], names)
         at = b
     return out + text[at:]
 
 
 def turn_page(text, names):
     """In a page the names stand between backquotes."""
-    return re.sub(r"`[^`\n]+`", lambda m: turn_antt(m[0], names, None), text)
+    return re.sub(r"`[^`\n]+`", lambda m: turn_antt(m[0], names), text)
 
 
 def main(argv):
     only_list = argv[:1] == ["--list"]
     top = argv[-1]
-    names, own, kit = mapping(top)
+    names = mapping(top)
     if only_list:
         for a, b in sorted(names.items()):
             print(a, b)
         return 0
-    fields = set(own)
     for folder, dirs, files in os.walk(top):
         dirs[:] = [d for d in dirs if d not in ("out", ".git", "target")]
         for f in files:
             path = os.path.join(folder, f)
             turn = None
             if f.endswith(".antt"):
-                turn = lambda text: turn_antt(text, names, None)
+                turn = lambda text: turn_antt(text, names)
             elif f.endswith(".rt"):
                 turn = lambda text: turn_source(text, names)
             elif f.endswith(".edit"):
-                turn = lambda text: turn_antt(text, names, None)
+                turn = lambda text: turn_antt(text, names)
             elif f.endswith(".md") and f not in ("PORT.md",):
                 turn = lambda text: turn_page(text, names)
             if turn:
