@@ -1,18 +1,11 @@
 // The first part of something lent.
 #![tactic(auto)]
 
-// The first n limbs, or all where there are fewer.
-pub fn first_limbs(limbs: &[u64], n: usize) -> &[u64] {
-    if limbs.len() <= n {
-        return limbs;
-    }
-    &limbs[..n]
-}
+ghost use Rattle.std.specs.Prelude.{◌≡◌, take};
 
-// The first n cells or bytes, or all where there are fewer.
-pub fn first_cells(cells: &[u8], n: usize) -> &[u8] {
-    if cells.len() <= n {
-        return cells;
-    }
-    &cells[..n]
+// The first n items, or all where there are fewer.
+pub fn first<T>(items: &[T], n: usize) -> &[T]
+    ensures { result.now ≡ take n items.now }
+{
+    &items[..n.min(items.len())]
 }
