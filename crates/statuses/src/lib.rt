@@ -1,46 +1,69 @@
 // The exit status of the bench program: 0 done, 1 refused, 2 a wrong command line or trouble with a file.
 #![tactic(auto)]
 
-ghost use Rattle.std.specs.Prelude.{◌≡◌, max};
-ghost use Rattle.statuses.specs.Statuses.{status_of, status_told};
+ghost use Rattle.std.specs.Prelude.{◌≡◌, max, MatchResult};
+ghost use Rattle.std.specs.Process.{exit_status};
+ghost use Rattle.statuses.specs.Statuses.{status_of, status_told, code_of};
 
 use replies::Reply;
+use std::process::ExitCode;
 
-// All is done.
-pub const DONE: u8 = 0;
+// All is done; a call is refused; the command line is wrong, or there is trouble with a file.
+#[derive(Clone, Copy, PartialEq, Eq, PartialOrd, Ord, Debug)]
+pub enum Status {
+    Done = 0,
+    Refused = 1,
+    Trouble = 2,
+}
 
-// A call is refused.
-pub const REFUSED: u8 = 1;
+impl Status {
+    // The number that the program exits with.
+    pub fn code(self) -> u8
+        ensures { result ≡ code_of self }
+    {
+        self as u8
+    }
 
-// The command line is wrong, or there is trouble with a file.
-pub const TROUBLE: u8 = 2;
+    // The status of two together, which is the greater.
+    pub fn or_worse(self, other: Status) -> Status
+        ensures { code_of result ≡ max (code_of self) (code_of other) }
+    {
+        self.max(other)
+    }
+
+    // The status of a call of which all was told, or not all could be.
+    pub fn told(self, whole: bool) -> Status
+        ensures { code_of result ≡ status_told (code_of self) whole }
+    {
+        if whole { self } else { Status::Trouble }
+    }
+}
+
+impl From<Status> for ExitCode {
+    ghost from_gives = { λ status code. exit_status code ≡ code_of status };
+
+    fn from(status: Status) -> ExitCode {
+        ExitCode::from(status.code())
+    }
+}
 
 // The status that a reply means.
-pub fn of_reply(reply: Reply) -> u8
-    ensures { result ≡ status_of reply }
+pub fn of_reply(reply: Reply) -> Status
+    ensures { code_of result ≡ status_of reply }
 {
     if reply.number == replies::DONE {
-        return DONE;
+        Status::Done
+    } else {
+        Status::Refused
     }
-    REFUSED
 }
 
-// The status of two together, which is the greater.
-pub fn worse(a: u8, b: u8) -> u8
-    ensures { result ≡ max a b }
+// The status that a call's answer means.
+pub fn of<T, E>(answer: &Result<T, E>) -> Status
+    ensures { MatchResult answer.now (λ _. result ≡ Status.Done) (λ _. result ≡ Status.Refused) }
 {
-    if a < b {
-        return b;
+    match answer {
+        Ok(_) => Status::Done,
+        Err(_) => Status::Refused,
     }
-    a
-}
-
-// The status of a call of which all was told, or not all could be.
-pub fn told(status: u8, whole: bool) -> u8
-    ensures { result ≡ status_told status whole }
-{
-    if whole {
-        return status;
-    }
-    TROUBLE
 }
