@@ -9,3 +9,11 @@ pub fn first<T>(items: &[T], n: usize) -> &[T]
 {
     &items[..n.min(items.len())]
 }
+
+// The same, to be written.
+pub fn first_mut<T>(items: &mut [T], n: usize) -> &mut [T]
+    ensures { result.now ≡ take n items.old }
+{
+    let n = n.min(items.len());
+    &mut items[..n]
+}
