@@ -5,6 +5,7 @@ pub mod Ranges
 pub mod Examples
 pub mod ReplyLaws
 pub mod AnswerLaws
+pub mod OneAnswer
 pub mod LowestLaws
 pub mod NumberLaws
 pub mod WritingLaws
