@@ -26,7 +26,7 @@ pub extern "C" fn remi_build_table(p: Profile, out: &mut [u64]) -> Written
     ensures value { result ≡ (building p out.old).answer }
     ensures out_after { out.new ≡ (building p out.old).lent }
 {
-    tables::build(p, out)
+    tables::build(p, out).into()
 }
 
 // Hands out the shipped table, of q = 4 and x = 1, for words of length m.
@@ -35,7 +35,7 @@ pub extern "C" fn remi_shipped_table(m: usize, out: &mut [u64]) -> Written
     ensures value { result ≡ (handing_out m out.old).answer }
     ensures out_after { out.new ≡ (handing_out m out.old).lent }
 {
-    tables::shipped(m, out)
+    tables::shipped(m, out).into()
 }
 
 // Gives the index of a word.
@@ -43,7 +43,7 @@ pub extern "C" fn remi_shipped_table(m: usize, out: &mut [u64]) -> Written
 pub extern "C" fn remi_index_of_word(p: Profile, table: &[u64], cells: &[u8]) -> Indexed
     ensures { result ≡ indexing p table.now cells.now }
 {
-    index_of_word::index(p, table, cells)
+    index_of_word::index(p, table, cells).into()
 }
 
 // Writes the word of an index.
@@ -52,7 +52,7 @@ pub extern "C" fn remi_word_of_index(p: Profile, table: &[u64], i: Index, out: &
     ensures value { result ≡ (spelling p table.now i out.old).answer }
     ensures out_after { out.new ≡ (spelling p table.now i out.old).lent }
 {
-    word_of_index::word(p, table, i, out)
+    word_of_index::word(p, table, i, out).into()
 }
 
 // Writes message bits as a bridged stream.
@@ -67,7 +67,7 @@ pub extern "C" fn remi_write_stream(
     ensures value { result ≡ (writing_stream p table.now bytes.now bits out.old).answer }
     ensures out_after { out.new ≡ (writing_stream p table.now bytes.now bits out.old).lent }
 {
-    write_stream::write(p, table, bytes, bits, out)
+    write_stream::write(p, table, bytes, bits, out).into()
 }
 
 // Reads a stream back to its message bits.
@@ -81,7 +81,7 @@ pub extern "C" fn remi_read_stream(
     ensures value { result ≡ (reading_stream p table.now cells.now out.old).answer }
     ensures out_after { out.new ≡ (reading_stream p table.now cells.now out.old).lent }
 {
-    read_stream::read(p, table, cells, out)
+    read_stream::read(p, table, cells, out).into()
 }
 
 // Joins two streams.
@@ -95,7 +95,7 @@ pub extern "C" fn remi_join_streams(
     ensures value { result ≡ (joining_streams p first.now second.now out.old).answer }
     ensures out_after { out.new ≡ (joining_streams p first.now second.now out.old).lent }
 {
-    join_streams::join(p, first, second, out)
+    join_streams::join(p, first, second, out).into()
 }
 
 // Turns a stream end for end.
@@ -104,7 +104,7 @@ pub extern "C" fn remi_turn_stream(p: Profile, cells: &[u8], out: &mut [u8]) -> 
     ensures value { result ≡ (turning_stream p cells.now out.old).answer }
     ensures out_after { out.new ≡ (turning_stream p cells.now out.old).lent }
 {
-    join_streams::turn(p, cells, out)
+    join_streams::turn(p, cells, out).into()
 }
 
 // Finds the first forbidden pattern in a run of cells.
@@ -112,7 +112,7 @@ pub extern "C" fn remi_turn_stream(p: Profile, cells: &[u8], out: &mut [u8]) -> 
 pub extern "C" fn remi_find_pattern(q: usize, x: usize, cells: &[u8]) -> Reply
     ensures { result ≡ finding q x cells.now }
 {
-    cells::find(q, x, cells)
+    cells::find(q, x, cells).into()
 }
 
 // Gives a row of the published profiles.
@@ -120,7 +120,7 @@ pub extern "C" fn remi_find_pattern(q: usize, x: usize, cells: &[u8]) -> Reply
 pub extern "C" fn remi_published_profile(row: usize) -> Published
     ensures { result ≡ publishing row }
 {
-    catalogue::published_profile(row)
+    catalogue::published_profile(row).into()
 }
 
 // Gives the rate of n words as bits and cells.
@@ -128,7 +128,7 @@ pub extern "C" fn remi_published_profile(row: usize) -> Published
 pub extern "C" fn remi_rate_of_words(p: Profile, table: &[u64], n: usize) -> Rated
     ensures { result ≡ rating p table.now n }
 {
-    catalogue::rate_of_words(p, table, n)
+    catalogue::rate_of_words(p, table, n).into()
 }
 
 // Gives what the listing program prints for a line.
@@ -137,7 +137,7 @@ pub extern "C" fn remi_list_code(line: &[u8], out: &mut [u8]) -> Written
     ensures value { result ≡ (listing line.now out.old).answer }
     ensures out_after { out.new ≡ (listing line.now out.old).lent }
 {
-    code_as_text::list(line, out)
+    code_as_text::list(line, out).into()
 }
 
 // Gives what a reply says, in words.
@@ -146,5 +146,5 @@ pub extern "C" fn remi_reply_text(reply: Reply, out: &mut [u8]) -> Written
     ensures value { result ≡ (telling_reply reply out.old).answer }
     ensures out_after { out.new ≡ (telling_reply reply out.old).lent }
 {
-    outcomes::reply_text(reply, out)
+    outcomes::reply_text(reply, out).into()
 }
