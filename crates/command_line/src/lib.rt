@@ -2,58 +2,105 @@
 // wrong with it.
 #![tactic(auto)]
 
-ghost use Rattle.io.specs.Counts.{IsPrefixLen};
+ghost use Rattle.std.specs.Prelude.{◌≤◌, length};
 
-use items::Item;
+use items::{Item, Items, Kind, Words};
 use replies::{Profile, Reply};
 use std::env::FillError;
 use std::rt::Env;
-use wrong::Wrong;
 
 pub mod items;
 pub mod shape;
-pub mod wrong;
+mod wrong;
 
-// What the program was started with: what is wrong with it; how many words there are, of which word 0 is the
-// subcommand; the options that stand there; and the arguments that -t and -n take, 0 without these.
-#[derive(Clone, Copy)]
+pub use wrong::{Fault, Flag};
+
+// What the program was started with: how many words there are, of which word 0 is the subcommand; the options that
+// stand there; and the arguments that -t and -n take.
+#[derive(Clone, Copy, Default)]
 pub struct Line {
-    pub wrong: Wrong,
     pub count: usize,
     pub over: bool,
     pub json: bool,
     pub help: bool,
     pub version: bool,
-    pub table: usize,
-    pub bits: usize,
+    pub table: Option<usize>,
+    pub bits: Option<usize>,
 }
 
-// A number as it was typed, if it is one.
+impl Line {
+    // Takes one more item in, unless it is wrong behind what stands in the line.
+    fn take(&mut self, rt: &impl Env, item: Item) -> Result<(), Fault> {
+        match item.kind {
+            Kind::Word => self.count = self.count.saturating_add(1),
+            Kind::End => {}
+            Kind::Over => self.over = true,
+            Kind::Table(taken) => self.table = Some(once(rt, Flag::Table, self.table, taken)?),
+            Kind::Bits(taken) => self.bits = Some(once(rt, Flag::Bits, self.bits, taken)?),
+            Kind::Json => self.json = true,
+            Kind::Help => self.help = true,
+            Kind::Version => self.version = true,
+            Kind::Unknown => return Err(Fault::NoOption(item.at)),
+            Kind::Long => return Err(Fault::TooLong(item.at)),
+        }
+        Ok(())
+    }
+
+    // An option stands in the line.
+    pub fn has(&self, flag: Flag) -> bool {
+        match flag {
+            Flag::Over => self.over,
+            Flag::Table => self.table.is_some(),
+            Flag::Bits => self.bits.is_some(),
+            Flag::Json => self.json,
+        }
+    }
+}
+
+// The argument that an option takes, where the option has taken none before.
+fn once(
+    rt: &impl Env,
+    flag: Flag,
+    before: Option<usize>,
+    taken: Option<usize>,
+) -> Result<usize, Fault> {
+    if before.is_some() {
+        return Err(Fault::Twice(flag));
+    }
+    let i = taken.ok_or(Fault::NothingFollows(flag))?;
+    if items::is_long(rt, i) {
+        return Err(Fault::TooLong(i));
+    }
+    Ok(i)
+}
+
+// A line that is wrong: what was read of it, and what is wrong with the item behind that.
 #[derive(Clone, Copy)]
-pub struct Typed {
-    pub wrong: Wrong,
-    pub value: u64,
+pub struct Misread {
+    pub line: Line,
+    pub fault: Fault,
 }
 
-// A profile as it was typed, if it is one, and the number of the word behind it. A row of the published
-// profiles that there is not is refused.
-#[derive(Clone, Copy)]
-pub struct Asked {
-    pub wrong: Wrong,
-    pub reply: Reply,
-    pub profile: Profile,
-    pub next: u8,
+// What the program was started with, or what is wrong with the first item that is.
+pub fn started(rt: &impl Env) -> Result<Line, Misread> {
+    let mut line = Line::default();
+    for item in Items::new(rt) {
+        if let Err(fault) = line.take(rt, item) {
+            return Err(Misread { line, fault });
+        }
+    }
+    Ok(line)
 }
 
-// Puts argument i, as much of it as there is room for, to the front of `buf`. How many bytes; 0 where there is no
-// such argument.
-pub fn arg(rt: &impl Env, i: usize, buf: &mut [u8]) -> usize
-    ensures { IsPrefixLen result buf.new }
+// Puts argument i, as much of it as there is room for, to the front of `buf`, and gives it; nothing where there is
+// no such argument.
+pub fn arg<'a>(rt: &impl Env, i: usize, buf: &'a mut [u8]) -> &'a [u8]
+    ensures { length result.now ≤ length buf.old }
 {
     match rt.arg(i, buf) {
-        Ok(n) => n,
-        Err(FillError::TooLong) => buf.len(),
-        Err(FillError::NotPresent) => 0,
+        Ok(n) => &buf[..n],
+        Err(FillError::TooLong) => buf,
+        Err(FillError::NotPresent) => &[],
     }
 }
 
@@ -63,25 +110,79 @@ fn is_argument(rt: &impl Env, i: usize) -> bool {
 }
 
 // The highest bit that a number of arguments can have.
-const HIGHEST: usize = 2147483648;
+const HIGHEST: usize = 0x8000_0000;
 
 // How many arguments there are, the program's own name among them. They are numbered without a gap, so each bit of
 // the number, the highest first, is set if there are as many arguments as the number has with that bit.
 pub fn arg_count(rt: &impl Env) -> usize {
     let mut count: usize = 0;
-    let mut bit = HIGHEST;
-    for _ in 0..32 {
-        let more = count.saturating_add(bit);
+    for k in 0..32u32 {
+        let more = count.saturating_add(HIGHEST >> k);
         if is_argument(rt, more.saturating_sub(1)) {
             count = more;
         }
-        bit /= 2;
     }
     count
 }
 
-// The subcommands, and any other word.
-#[derive(Clone, Copy)]
+// The argument that is word k.
+pub fn argument(rt: &impl Env, k: usize) -> Option<usize> {
+    Words::new(rt).nth(k)
+}
+
+// Whether argument i is this text.
+pub fn is_text(rt: &impl Env, i: usize, text: &[u8]) -> bool {
+    let mut buf = io::buffer();
+    arg(rt, i, &mut buf) == text
+}
+
+// Puts word k to the front of `buf`, and gives it; nothing where there is no such word.
+pub fn word<'a>(rt: &impl Env, k: usize, buf: &'a mut [u8]) -> &'a [u8]
+    ensures { length result.now ≤ length buf.old }
+{
+    match argument(rt, k) {
+        Some(i) => arg(rt, i, buf),
+        None => &[],
+    }
+}
+
+// Whether word k is this text.
+pub fn is_word(rt: &impl Env, line: Line, k: usize, text: &[u8]) -> bool {
+    k < line.count && argument(rt, k).is_some_and(|i| is_text(rt, i, text))
+}
+
+// The number at an argument, in ten limbs.
+fn limbs_at(rt: &impl Env, i: usize) -> Option<[u64; 10]> {
+    let mut buf = io::buffer();
+    let mut limbs = [0u64; 10];
+    if decimals::limbs_in(arg(rt, i, &mut buf), &mut limbs) {
+        Some(limbs)
+    } else {
+        None
+    }
+}
+
+// The number at an argument.
+pub fn number_at(rt: &impl Env, i: usize) -> Result<u64, Fault> {
+    let limbs = limbs_at(rt, i).ok_or(Fault::NoNumber(i))?;
+    Ok(decimals::one_limb(&limbs))
+}
+
+// The number in word k, in ten limbs.
+pub fn limbs(rt: &impl Env, k: usize) -> Option<[u64; 10]> {
+    limbs_at(rt, argument(rt, k)?)
+}
+
+// Word k as a number.
+pub fn number(rt: &impl Env, line: Line, k: usize) -> Result<u64, Fault> {
+    if line.count <= k {
+        return Err(Fault::Missing);
+    }
+    number_at(rt, argument(rt, k).ok_or(Fault::Missing)?)
+}
+
+// The subcommands.
+#[derive(Clone, Copy, PartialEq, Eq, Debug)]
 pub enum Command {
     Read,
     Check,
@@ -96,224 +197,64 @@ pub enum Command {
     Profiles,
     List,
     Help,
-    Other,
 }
 
-// What is wrong with an item at argument i, behind what stands in the line.
-fn fault(rt: &impl Env, line: Line, item: Item, i: usize) -> Wrong {
-    let kind = item.kind;
-    let before = match kind {
-        items::LONG => return wrong::of(wrong::TOO_LONG, i),
-        items::UNKNOWN => return wrong::of(wrong::NO_OPTION, i),
-        items::TABLE => line.table,
-        items::BITS => line.bits,
-        _ => return wrong::nothing(),
+// A profile as it was typed, and the number of the word behind it. A row of the published profiles that there is not
+// is refused.
+#[derive(Clone, Copy)]
+pub struct Named {
+    pub profile: Result<Profile, Reply>,
+    pub next: usize,
+}
+
+impl Named {
+    // What was typed, unless its row is refused.
+    pub fn asked(self) -> Result<Asked, Reply> {
+        let profile = self.profile?;
+        Ok(Asked {
+            profile,
+            next: self.next,
+        })
+    }
+}
+
+// The profile that a subcommand asks for, and the number of the word behind it.
+#[derive(Clone, Copy)]
+pub struct Asked {
+    pub profile: Profile,
+    pub next: usize,
+}
+
+// A published profile, by the number of its row.
+fn published(row: u64) -> Result<Profile, Reply> {
+    let published = catalogue::published_profile(row as usize);
+    if published.reply.number != replies::DONE {
+        return Err(published.reply);
+    }
+    Ok(Profile {
+        q: published.q,
+        m: published.m,
+        x: published.x,
+    })
+}
+
+// The profile that a subcommand asks for, from word 1 on: none; q and x, where there are no words and so no m; or
+// `row` and a number, or q, m and x.
+pub fn asking(rt: &impl Env, line: Line, command: Command) -> Result<Named, Fault> {
+    let word = |k| -> Result<usize, Fault> { Ok(number(rt, line, k)? as usize) };
+    let (q, m, x, next) = match command {
+        Command::Profiles | Command::Help => (0, 0, 0, 1),
+        Command::Find => (word(1)?, 0, word(2)?, 3),
+        _ if is_word(rt, line, 1, b"row") => {
+            return Ok(Named {
+                profile: published(number(rt, line, 2)?),
+                next: 3,
+            });
+        }
+        _ => (word(1)?, word(2)?, word(3)?, 4),
     };
-    if 0 < before {
-        return wrong::of(wrong::TWICE, kind as usize);
-    }
-    if item.taken == 0 {
-        return wrong::of(wrong::NOTHING_FOLLOWS, kind as usize);
-    }
-    if items::is_long(rt, item.taken) {
-        return wrong::of(wrong::TOO_LONG, item.taken);
-    }
-    wrong::nothing()
-}
-
-// The line with one more item.
-fn with_item(line: Line, item: Item) -> Line {
-    let mut more = line;
-    let kind = item.kind;
-    match kind {
-        items::WORD => {
-            if line.count < usize::MAX {
-                more.count = line.count + 1;
-            }
-        }
-        items::OVER => more.over = true,
-        items::JSON => more.json = true,
-        items::HELP => more.help = true,
-        items::VERSION => more.version = true,
-        items::TABLE => more.table = item.taken,
-        items::BITS => more.bits = item.taken,
-        _ => {}
-    }
-    more
-}
-
-// A line without an item.
-fn blank() -> Line {
-    Line {
-        wrong: wrong::nothing(),
-        count: 0,
-        over: false,
-        json: false,
-        help: false,
-        version: false,
-        table: 0,
-        bits: 0,
-    }
-}
-
-// What the program was started with, up to the first item that is wrong.
-pub fn started(rt: &impl Env) -> Line {
-    let mut line = blank();
-    let end = arg_count(rt);
-    let mut ended = false;
-    let mut i = 1;
-    while i < end {
-        let item = items::at(rt, i, ended, end);
-        let found = fault(rt, line, item, i);
-        if found.what != wrong::NOTHING {
-            line.wrong = found;
-            return line;
-        }
-        line = with_item(line, item);
-        ended = item.ended;
-        i = item.next;
-    }
-    line
-}
-
-// The argument that is word k; 0, which is the program's own name, where there is none.
-pub fn argument(rt: &impl Env, k: usize) -> usize {
-    let end = arg_count(rt);
-    let mut left = k;
-    let mut ended = false;
-    let mut i = 1;
-    while i < end {
-        let item = items::at(rt, i, ended, end);
-        if item.kind == items::WORD {
-            if left == 0 {
-                return i;
-            }
-            left -= 1;
-        }
-        ended = item.ended;
-        i = item.next;
-    }
-    0
-}
-
-// Whether argument i is this text.
-pub fn is_text(rt: &impl Env, i: usize, text: &[u8]) -> bool {
-    let mut buf = io::buffer();
-    let n = arg(rt, i, &mut buf);
-    text::same(&buf[..n], text)
-}
-
-// Puts word k to the front of `buf`. How many bytes it has.
-pub fn word(rt: &impl Env, k: usize, buf: &mut [u8]) -> usize
-    ensures { IsPrefixLen result buf.new }
-{
-    arg(rt, argument(rt, k), buf)
-}
-
-// Whether word k is this text.
-pub fn is_word(rt: &impl Env, line: Line, k: usize, text: &[u8]) -> bool {
-    k < line.count && is_text(rt, argument(rt, k), text)
-}
-
-// Takes the number at an argument to ten limbs, if it is one.
-fn limbs_at(rt: &impl Env, i: usize, limbs: &mut [u64; 10]) -> bool {
-    let mut buf = io::buffer();
-    let n = arg(rt, i, &mut buf);
-    decimals::limbs_in(&buf[..n], limbs)
-}
-
-// The number at an argument.
-pub fn number_at(rt: &impl Env, i: usize) -> Typed {
-    let mut limbs = [0u64; 10];
-    let mut found = wrong::nothing();
-    if !limbs_at(rt, i, &mut limbs) {
-        found = wrong::of(wrong::NO_NUMBER, i);
-    }
-    Typed {
-        wrong: found,
-        value: decimals::one_limb(&limbs),
-    }
-}
-
-// Takes the number in word k to ten limbs, if it is one.
-pub fn limbs(rt: &impl Env, k: usize, limbs: &mut [u64; 10]) -> bool {
-    limbs_at(rt, argument(rt, k), limbs)
-}
-
-// Word k as a number.
-pub fn number(rt: &impl Env, line: Line, k: usize) -> Typed {
-    if line.count <= k {
-        return Typed {
-            wrong: wrong::of(wrong::MISSING, 0),
-            value: 0,
-        };
-    }
-    number_at(rt, argument(rt, k))
-}
-
-// A published profile, by the number of its row in word 2.
-fn row(rt: &impl Env, line: Line) -> Asked {
-    let typed = number(rt, line, 2);
-    let found = typed.wrong;
-    let published = catalogue::published_profile(typed.value as usize);
-    let reply = published.reply;
-    Asked {
-        wrong: found,
-        reply,
-        profile: replies::profile_of(published.q, published.m, published.x),
-        next: 3,
-    }
-}
-
-// q and x from word 1 on, where there are no words and so no m.
-fn levels_and_reach(rt: &impl Env, line: Line) -> Asked {
-    let q = number(rt, line, 1);
-    let x = number(rt, line, 2);
-    let fault_of_q = q.wrong;
-    let fault_of_x = x.wrong;
-    Asked {
-        wrong: wrong::first(fault_of_q, fault_of_x),
-        reply: replies::done(),
-        profile: replies::profile_of(q.value as usize, 0, x.value as usize),
-        next: 3,
-    }
-}
-
-// The profile from word 1 on: `row` and a number, or q, m and x.
-fn profile(rt: &impl Env, line: Line) -> Asked {
-    if is_word(rt, line, 1, b"row") {
-        return row(rt, line);
-    }
-    let q = number(rt, line, 1);
-    let m = number(rt, line, 2);
-    let x = number(rt, line, 3);
-    let fault_of_q = q.wrong;
-    let fault_of_m = m.wrong;
-    let fault_of_x = x.wrong;
-    Asked {
-        wrong: wrong::first(fault_of_q, wrong::first(fault_of_m, fault_of_x)),
-        reply: replies::done(),
-        profile: replies::profile_of(q.value as usize, m.value as usize, x.value as usize),
-        next: 4,
-    }
-}
-
-// No profile is asked for.
-fn none() -> Asked {
-    Asked {
-        wrong: wrong::nothing(),
-        reply: replies::done(),
-        profile: replies::profile_of(0, 0, 0),
-        next: 1,
-    }
-}
-
-// The profile that a subcommand asks for.
-pub fn asking(rt: &impl Env, line: Line, command: Command) -> Asked {
-    match command {
-        Command::Find => levels_and_reach(rt, line),
-        Command::Profiles => none(),
-        Command::Help => none(),
-        _ => profile(rt, line),
-    }
+    Ok(Named {
+        profile: Ok(Profile { q, m, x }),
+        next,
+    })
 }

@@ -1,62 +1,40 @@
 // What is wrong with a command line.
 
-// Nothing is wrong.
-pub const NOTHING: u8 = 0;
-
-// There is no subcommand.
-pub const NO_SUBCOMMAND: u8 = 1;
-
-// An argument is no subcommand.
-pub const OTHER_SUBCOMMAND: u8 = 2;
-
-// An argument is no option.
-pub const NO_OPTION: u8 = 3;
-
-// Nothing follows an option that takes an argument.
-pub const NOTHING_FOLLOWS: u8 = 4;
-
-// An option that takes an argument stands twice.
-pub const TWICE: u8 = 5;
-
-// The subcommand does not take an option.
-pub const NOT_TAKEN: u8 = 6;
-
-// A word is missing.
-pub const MISSING: u8 = 7;
-
-// An argument is one word too many.
-pub const TOO_MANY: u8 = 8;
-
-// An argument is no number.
-pub const NO_NUMBER: u8 = 9;
-
-// An argument is longer than any name.
-pub const TOO_LONG: u8 = 10;
-
-// The name - stands for two files that are read.
-pub const TWO_STANDARD: u8 = 11;
-
-// What is wrong, and the argument or the option that is.
-#[derive(Clone, Copy)]
-pub struct Wrong {
-    pub what: u8,
-    pub at: usize,
+// An option.
+#[derive(Clone, Copy, PartialEq, Eq, Debug)]
+pub enum Flag {
+    Over,
+    Table,
+    Bits,
+    Json,
 }
 
-// Nothing is wrong.
-pub fn nothing() -> Wrong {
-    of(NOTHING, 0)
-}
-
-// Something is wrong with an argument or an option.
-pub fn of(what: u8, at: usize) -> Wrong {
-    Wrong { what, at }
-}
-
-// The first of two faults.
-pub fn first(a: Wrong, b: Wrong) -> Wrong {
-    if a.what == NOTHING {
-        return b;
+impl Flag {
+    // How an option is spelt.
+    pub fn spelt(self) -> &'static [u8] {
+        match self {
+            Flag::Over => b"-f",
+            Flag::Table => b"-t",
+            Flag::Bits => b"-n",
+            Flag::Json => b"--json",
+        }
     }
-    a
+}
+
+// What is wrong: there is no subcommand; an argument is no subcommand or no option; nothing follows an option that
+// takes an argument, or it stands twice; the subcommand does not take an option; a word is missing; an argument is
+// one word too many, is no number, or is longer than any name; the name - stands for two files that are read.
+#[derive(Clone, Copy, PartialEq, Eq, Debug)]
+pub enum Fault {
+    NoSubcommand,
+    OtherSubcommand(usize),
+    NoOption(usize),
+    NothingFollows(Flag),
+    Twice(Flag),
+    NotTaken(Flag),
+    Missing,
+    TooMany(usize),
+    NoNumber(usize),
+    TooLong(usize),
+    TwoStandard,
 }

@@ -1,6 +1,0 @@
--- The loop of `shape::standard` ends after the last argument.
-use Rattle.std.proofs.Common.{◌-◌}
-use Rattle.command_line.proofs.shape.standard.Given as goal
-
-abbrev pub decreases-loop-i : goal.decreases-loop-i
-decreases-loop-i g l = l.end - l.i
