@@ -5,7 +5,7 @@
 ghost use Rattle.std.specs.Prelude.{◌≤◌, length};
 
 use items::{Item, Items, Kind, Words};
-use replies::{Profile, Reply};
+use replies::{Profile, Refusal};
 use std::env::FillError;
 use std::rt::Env;
 
@@ -203,13 +203,13 @@ pub enum Command {
 // is refused.
 #[derive(Clone, Copy)]
 pub struct Named {
-    pub profile: Result<Profile, Reply>,
+    pub profile: Result<Profile, Refusal>,
     pub next: usize,
 }
 
 impl Named {
     // What was typed, unless its row is refused.
-    pub fn asked(self) -> Result<Asked, Reply> {
+    pub fn asked(self) -> Result<Asked, Refusal> {
         let profile = self.profile?;
         Ok(Asked {
             profile,
@@ -226,15 +226,12 @@ pub struct Asked {
 }
 
 // A published profile, by the number of its row.
-fn published(row: u64) -> Result<Profile, Reply> {
-    let published = catalogue::published_profile(row as usize);
-    if published.reply.number != replies::DONE {
-        return Err(published.reply);
-    }
+fn published(row: u64) -> Result<Profile, Refusal> {
+    let row = catalogue::published_profile(row as usize)?;
     Ok(Profile {
-        q: published.q,
-        m: published.m,
-        x: published.x,
+        q: row.q,
+        m: row.m,
+        x: row.x,
     })
 }
 
