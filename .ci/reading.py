@@ -154,7 +154,7 @@ def functions():
         text = path.read_text()
         module = [path.parts[-3]] + ([] if path.stem in ("lib", "main") else [path.stem])
         for head in HEAD.finditer(text):
-            owner = re.findall(r"^impl (\w+) \{", text[: head.start()], re.M)[-1:] if head[1] else []
+            owner = re.findall(r"^impl(?:<[^{]*?>)? (\w+)(?:<[^{]*?>)?(?: \{|\n)", text[: head.start()], re.M)[-1:] if head[1] else []
             contract = re.findall(r"(requires|ensures)(?: \w+)? \{ (.*) \}", head[5] or "")
             found["::".join(module + owner + [head[2]])] = path, re.findall(r"(\w+): ([^,]+)", head[3]), head[4] or "", contract
         if len(HEAD.findall(text)) != len(re.findall(r"\bpub (?:extern \"C\" )?fn ", text)):
@@ -165,6 +165,7 @@ def functions():
 def types_in(path, text):
     """The structs and enums of this repository that Rust types in a source name."""
     scope = source_scope(path)[1]
+    text = re.sub(r"\b(Option|Result)<", "<", text)
     for place, name in re.findall(r"((?:\w+::)*)\b([A-Z]\w*[a-z]\w*)\b", text):
         owner = (place.split("::")[:-1] or scope.get(name, ["crate"]))[0]
         folder = path.parent if owner in ("crate", "super") else ROOT / "crates" / owner / "src"
