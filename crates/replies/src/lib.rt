@@ -139,10 +139,7 @@ pub fn moved_by(places: usize, found: Result<(), Refusal>) -> Result<(), Refusal
     requires { (reply_of found).place + places < 2 ^ 64 }
     ensures { reply_of result ≡ moved_by places (reply_of found) }
 {
-    let Err(refusal) = found else {
-        return Ok(());
-    };
-    Err(refusal.why.at(refusal.place + places))
+    found.map_err(|refusal| refusal.why.at(refusal.place + places))
 }
 
 // What was found of two parts of an input, the second further on, as it is found of both: the lower number decides,
