@@ -1,7 +1,8 @@
 -- Laws of levels joined by commas: one level after another, and how many bytes they take.
-use Rattle.std.specs.Prelude.{◌≡◌, refl, true, List, [], ◌∷◌, ◌++◌, ℕ, zero, suc, ◌+◌, ◌*◌, ◌^◌, ◌≤◌, ◌<◌, ltb, length, take, drop, get_or}
-use Rattle.std.proofs.Common.{sym, ap, ◌∙◌, append-nil, append_assoc, mul-suc, add-one, arith, length-append, take-append-drop, take-suc, take_all, drop-cons, ltb-true}
+use Rattle.std.specs.Prelude.{◌≡◌, refl, true, List, [], ◌∷◌, ◌++◌, ℕ, zero, suc, ◌+◌, ◌-◌, ◌*◌, ◌^◌, ◌≤◌, ◌<◌, ltb, length, take, drop, get_or}
+use Rattle.std.proofs.Common.{sym, ap, ◌∙◌, append-nil, append_assoc, mul-suc, add-one, add_comm, arith, length-append, length-drop, take-append-drop, take-suc, take_all, drop-cons, ltb-true}
 use Rattle.std.proofs.Math.Bool.{and-eq-true_iff}
+use Rattle.std.proofs.lemmas.List.{get_or-drop}
 use Rattle.listing.specs.Listing.{all_below}
 use Rattle.text.specs.Text.{bytes, decimal, further_levels, levels_text}
 use Rattle.text.specs.DecimalLaws.{decimal-length}
@@ -34,6 +35,13 @@ further_split [] i some inside = absurd (omega arith)
 further_split (c ∷ cells) zero some inside = absurd (omega arith)
 further_split (c ∷ cells) (suc i) some inside =
     ap further_levels (sym (take-append-drop i cells)) ∙ rw (add-one, further-append, drop-cons cells i 0 (omega arith))
+
+-- The others from the first on are those behind it.
+pub others : (cells : List ℕ) → take (length cells - 1) (drop 1 cells) ≡ drop 1 cells
+others cells = take_all (length cells - 1) (drop 1 cells) (rw length-drop (omega arith))
+
+pub other_at : (cells : List ℕ) (i : ℕ) → get_or (take (length cells - 1) (drop 1 cells)) i 0 ≡ get_or cells (i + 1) 0
+other_at cells i = rw (others cells, get_or-drop 1 cells i 0, add_comm 1 i)
 
 -- Levels are the first, and the others behind commas.
 pub levels_first : (cells : List ℕ) → 0 < length cells → levels_text cells ≡ decimal (get_or cells 0 0) ++ further_levels (drop 1 cells)

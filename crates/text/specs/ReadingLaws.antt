@@ -1,14 +1,15 @@
 -- Laws of reading a line: the numbers that are taken out of it, and the test of it against their line.
-use Rattle.std.specs.Prelude.{◌≡◌, refl, Bool, true, false, not, ◌&&◌, ◌||◌, List, ℕ, ltb, leb, drop}
+use Rattle.std.specs.Prelude.{◌≡◌, refl, Bool, true, false, not, ◌&&◌, ◌||◌, List, [], ◌∷◌, ℕ, ltb, leb, eqb}
 use Rattle.std.proofs.Common.{ap, ◌∙◌, leb-true, leb-false, lt-ltb, le-ltb}
+use Rattle.std.specs.Cmp.Lexicographic.{pointwise}
 use Rattle.replies.specs.declared.Profile.{Profile}
 use Rattle.replies.specs.Replies.{profile_of}
 use Rattle.listing.specs.Same.{same}
 use Rattle.text.specs.Line.{line_of, three_digits, number_in, behind_number, profile_in, is_line_of}
 
--- Three numbers, each read from the place behind the one before, are those of the line.
-pub numbers_read : (line : List ℕ) (second third : ℕ) {q m x : ℕ} → q ≡ number_in 0 line → drop second line ≡ behind_number line
-    → m ≡ number_in 0 (drop second line) → drop third line ≡ behind_number (drop second line) → x ≡ number_in 0 (drop third line)
+-- Three numbers, each read from what stands behind the one before, are those of the line.
+pub numbers_read : (line second third : List ℕ) {q m x : ℕ} → q ≡ number_in 0 line → second ≡ behind_number line
+    → m ≡ number_in 0 second → third ≡ behind_number second → x ≡ number_in 0 third
     → ◌≡◌ {A = Profile} (profile_of q m x) (profile_in line)
 unfolding profile_in
 numbers_read line second third q behind-q m behind-m x = rw (q, m, x, behind-m, behind-q)
@@ -51,3 +52,11 @@ pub line_compared : (line : List ℕ) (p : Profile) {made : List ℕ} {answer : 
     → answer ≡ same line made → answer ≡ is_line_of line p
 unfolding is_line_of
 line_compared line p three right e = e ∙ rw (right, three)
+
+-- What `==` says of two slices is that test.
+pub pointwise_same : (a b : List ℕ) → pointwise eqb a b ≡ same a b
+unfolding same
+pointwise_same [] [] = refl
+pointwise_same [] (c ∷ b) = refl
+pointwise_same (c ∷ a) [] = refl
+pointwise_same (c ∷ a) (d ∷ b) = rw (pointwise_same a b)

@@ -1,8 +1,8 @@
--- `text::put_decimal` meets its contract: the fewest digits that hold a number are its decimal.
+-- `text::Writer::put_decimal` meets its contract: the fewest digits that hold a number are its decimal.
 use mathlib.Core.Path.{◌∙◌}
 use native.Mathlib.Omega.{arith}
 use Rattle.text.specs.DecimalLaws.{fewest_decimal}
-use Rattle.text.proofs.put_decimal.Goals as goal
+use Rattle.text.proofs.Writer.put_decimal.Goals as goal
 
 pub put-requires : goal.put-requires
 put-requires c =
