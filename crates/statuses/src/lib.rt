@@ -1,11 +1,12 @@
 // The exit status of the bench program: 0 done, 1 refused, 2 a wrong command line or trouble with a file.
 #![tactic(auto)]
 
-ghost use Rattle.std.specs.Prelude.{◌≡◌, max, MatchResult};
+ghost use Rattle.std.specs.Prelude.{◌≡◌, max};
+ghost use Rattle.replies.specs.Answers.{reply_of};
 ghost use Rattle.std.specs.Process.{exit_status};
 ghost use Rattle.statuses.specs.Statuses.{status_of, status_told, code_of};
 
-use replies::Reply;
+use replies::Refusal;
 use std::process::ExitCode;
 
 // All is done; a call is refused; the command line is wrong, or there is trouble with a file.
@@ -47,20 +48,9 @@ impl From<Status> for ExitCode {
     }
 }
 
-// The status that a reply means.
-pub fn of_reply(reply: Reply) -> Status
-    ensures { code_of result ≡ status_of reply }
-{
-    if reply.number == replies::DONE {
-        Status::Done
-    } else {
-        Status::Refused
-    }
-}
-
 // The status that a call's answer means.
-pub fn of<T, E>(answer: &Result<T, E>) -> Status
-    ensures { MatchResult answer.now (λ _. result ≡ Status.Done) (λ _. result ≡ Status.Refused) }
+pub fn of<T>(answer: &Result<T, Refusal>) -> Status
+    ensures { code_of result ≡ status_of (reply_of answer.now) }
 {
     match answer {
         Ok(_) => Status::Done,
