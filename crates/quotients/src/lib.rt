@@ -1,45 +1,50 @@
 // How much there is of one number for each of another: spelt as a decimal with four places, and compared.
 #![tactic(auto)]
 
-ghost use Rattle.std.specs.Prelude.{◌≡◌, take};
+ghost use Rattle.std.specs.Prelude.{◌≡◌, IfSome, is_some, unwrap_or, take};
 ghost use Rattle.io.specs.Counts.{IsPrefixLen};
-ghost use Rattle.text.specs.Put.{Fits, Put};
-ghost use Rattle.quotients.specs.Quotients.{places_text, figure_text, is_larger};
+ghost use Rattle.text.specs.Writer.{HasRoom, Puts};
+ghost use Rattle.quotients.specs.Quotients.{is_figure, places_text, figure_text, is_larger};
+
+use text::Writer;
 
 // Numbers from here on are too large for a figure.
-const LIMIT: usize = 4294967296;
+const LIMIT: usize = 1 << 32;
 
-// Puts ten-thousandths as a decimal with four places to the front of `out`. How many bytes it has.
-fn put_places(t: usize, out: &mut [u8]) -> usize
-    requires { Fits out.old 0 (places_text t) }
-    ensures { Put out.old 0 (places_text t) out.new result }
+// Puts ten-thousandths as a decimal with four places.
+#[tactic(auto, unfolding(crate::specs::Quotients::places_text))]
+fn put_places(t: usize, out: &mut Writer)
+    requires { HasRoom out.old (places_text t) }
+    ensures { Puts out.old (places_text t) out.new }
 {
-    let mut next = text::put_decimal(out, 0, (t / 10000) as u64);
-    next = text::put(out, next, b".");
-    next = text::put_decimal(out, next, (t / 1000 % 10) as u64);
-    next = text::put_decimal(out, next, (t / 100 % 10) as u64);
-    next = text::put_decimal(out, next, (t / 10 % 10) as u64);
-    text::put_decimal(out, next, (t % 10) as u64)
+    out.put_decimal((t / 10000) as u64);
+    out.put(b".");
+    out.put_decimal((t / 1000 % 10) as u64);
+    out.put_decimal((t / 100 % 10) as u64);
+    out.put_decimal((t / 10 % 10) as u64);
+    out.put_decimal((t % 10) as u64)
 }
 
-// Puts a / b, with four places, to the front of `out`. How many bytes it has: none where there is nothing
+// Puts a / b, with four places, to the front of `out`. How many bytes it has; none where there is nothing
 // to divide by, or a number is too large.
-pub fn spell(a: usize, b: usize, out: &mut [u8; 16]) -> usize
-    ensures prefix_len { IsPrefixLen result out.new }
-    ensures out_after { take result out.new ≡ figure_text a b }
+#[tactic(auto, unfolding(crate::specs::Quotients::figure_text))]
+pub fn spell(a: usize, b: usize, out: &mut [u8; 16]) -> Option<usize>
+    ensures variant { is_some result ≡ is_figure a b }
+    ensures prefix_len { IfSome result (λ n. IsPrefixLen n out.new) }
+    ensures out_after { take (unwrap_or result 0) out.new ≡ figure_text a b }
 {
-    if (0 < b) & (a < LIMIT) & (b < LIMIT) {
-        return put_places((20000 * a + b) / (2 * b), out);
+    if 0 < b && a < LIMIT && b < LIMIT {
+        let mut writer = Writer { out, at: 0 };
+        put_places((20000 * a + b) / (2 * b), &mut writer);
+        return Some(writer.at);
     }
-    0
+    None
 }
 
 // Whether a / b is larger than c / d; never where a number is too large.
+#[tactic(auto, unfolding(crate::specs::Quotients::is_larger))]
 pub fn is_larger(a: usize, b: usize, c: usize, d: usize) -> bool
     ensures { result ≡ is_larger a b c d }
 {
-    if (a < LIMIT) & (b < LIMIT) & (c < LIMIT) & (d < LIMIT) {
-        return c * b < a * d;
-    }
-    false
+    a < LIMIT && b < LIMIT && c < LIMIT && d < LIMIT && c * b < a * d
 }

@@ -1,8 +1,8 @@
 -- Laws of a writer: one text put behind another is both together.
-use Rattle.std.specs.Prelude.{refl, List, [], ◌++◌, ℕ, ◌≤◌, length}
+use Rattle.std.specs.Prelude.{◌≡◌, refl, List, [], ◌++◌, ℕ, ◌≤◌, length, take}
 use Rattle.std.proofs.Common.{◌∙◌}
 use Rattle.text.specs.declared.Writer.{Writer}
-use Rattle.text.specs.PutLaws.{put_nothing, put_more}
+use Rattle.text.specs.PutLaws.{put_nothing, put_more, put_front}
 use Rattle.text.specs.Writer.{Puts}
 
 -- No text changes nothing.
@@ -16,3 +16,7 @@ puts_more first second = record {
   as_many = second.as_many ∙ first.as_many;
   same_out = second.same_out ∙ first.same_out;
 }
+
+-- A text that is put to the front stands there, also where the bytes are lent no longer.
+pub puts_front : {old new : Writer} {text held : List ℕ} → Puts old text new → old.at ≡ 0 → held ≡ new.out.now → take new.at held ≡ text
+puts_front puts front e = rw e (put_front (rw front at puts.put))
