@@ -22,10 +22,9 @@ const EINVAL: i32 = 22;
 
 const ENAMETOOLONG: i32 = 36;
 
-// What is known of a file: whether there is one, the device and the number that it has, its mode, owner and group.
+// What is known of a file that is found: the device and the number that it has, its mode, owner and group.
 #[derive(Clone, Copy)]
 pub struct Facts {
-    pub found: bool,
     pub device: u64,
     pub number: u64,
     pub mode: u32,
@@ -33,7 +32,7 @@ pub struct Facts {
     pub group: u32,
 }
 
-// What the system says of a file, under the names that it has for that.
+// What the system says of a file, under the names that it has for that, which `filled_with` ties Facts to.
 #[derive(Clone, Copy)]
 struct Stat {
     st_dev: u64,
@@ -56,18 +55,11 @@ fn stat_of(found: Metadata) -> Stat
     }
 }
 
-// Nothing is known.
-pub fn unknown() -> Facts
+// Nothing is known of a file, as none is found.
+pub fn unknown() -> Option<Facts>
     ensures { result ≡ nothing_known }
 {
-    Facts {
-        found: false,
-        device: 0,
-        number: 0,
-        mode: 0,
-        owner: 0,
-        group: 0,
-    }
+    None
 }
 
 // What the system says, where it answers.
@@ -75,23 +67,18 @@ fn told(answer: io::Result<Stat>) -> io::Result<Facts>
     ensures facts { facts_in result ≡ known_by answer }
     ensures error { IsErr result ↔ IsErr answer }
 {
-    match answer {
-        Ok(s) => Ok(Facts {
-            found: true,
-            device: s.st_dev,
-            number: s.st_ino,
-            mode: s.st_mode,
-            owner: s.st_uid,
-            group: s.st_gid,
-        }),
-        Err(error) => Err(error),
-    }
+    let s = answer?;
+    Ok(Facts {
+        device: s.st_dev,
+        number: s.st_ino,
+        mode: s.st_mode,
+        owner: s.st_uid,
+        group: s.st_gid,
+    })
 }
 
 // What is known of an open file.
-pub fn of_file(file: &impl OpenFile) -> io::Result<Facts>
-    ensures { IfOk result (λ facts. facts.found ≡ true) }
-{
+pub fn of_file(file: &impl OpenFile) -> io::Result<Facts> {
     told(file.metadata().map(stat_of))
 }
 
@@ -115,9 +102,7 @@ fn no_stream(rt: &impl Files) -> io::Error {
 }
 
 // What is known of the open file that the descriptor of a standard stream stands for.
-pub fn of_descriptor(rt: &impl Files, fd: i32) -> io::Result<Facts>
-    ensures { IfOk result (λ facts. facts.found ≡ true) }
-{
+pub fn of_descriptor(rt: &impl Files, fd: i32) -> io::Result<Facts> {
     let answer = match rt.metadata(stream_name(fd)?) {
         Err(error) if error.kind() == ErrorKind::NotFound => Err(no_stream(rt)),
         answer => answer,
@@ -142,10 +127,12 @@ fn is_name(name: &[u8]) -> bool
 
 // Why the system does not take a name whole.
 fn refusal(name: &[u8]) -> io::Error {
-    if name.len() < PATH_MAX {
-        return io::Error::from_raw_os_error(EINVAL);
-    }
-    io::Error::from_raw_os_error(ENAMETOOLONG)
+    let number = if name.len() < PATH_MAX {
+        EINVAL
+    } else {
+        ENAMETOOLONG
+    };
+    io::Error::from_raw_os_error(number)
 }
 
 // A name as a path, if it is UTF-8 and the system takes it whole.
@@ -156,10 +143,7 @@ pub fn path(name: &[u8]) -> io::Result<&str>
     if !is_name(name) {
         return Err(refusal(name));
     }
-    match str::from_utf8(name) {
-        Ok(path) => Ok(path),
-        Err(_) => Err(io::Error::from(ErrorKind::InvalidFilename)),
-    }
+    str::from_utf8(name).map_err(|_| io::Error::from(ErrorKind::InvalidFilename))
 }
 
 // What is known of the file that has a name; of a link, the link. Where none is found the error says why, and so
@@ -167,7 +151,6 @@ pub fn path(name: &[u8]) -> io::Result<&str>
 pub fn of_name(rt: &impl Files, name: &[u8]) -> io::Result<Facts>
     ensures nothing { is_name name.now ≡ false → facts_in result ≡ nothing_known }
     ensures refused { is_name name.now ≡ false → IsErr result }
-    ensures found { IfOk result (λ facts. facts.found ≡ true) }
 {
     let path = path(name)?;
     told(rt.symlink_metadata(path).map(stat_of))
@@ -181,19 +164,20 @@ pub fn make_folder(rt: &impl Files, name: &[u8]) -> io::Result<()>
 }
 
 // Both are found, and are one file.
-pub fn same_file(a: Facts, b: Facts) -> bool
+pub fn same_file(a: Option<Facts>, b: Option<Facts>) -> bool
     ensures { result ≡ same_file a b }
 {
-    let both = a.found & b.found;
-    let one = (a.device == b.device) & (a.number == b.number);
-    both & one
+    match (a, b) {
+        (Some(a), Some(b)) => (a.device == b.device) & (a.number == b.number),
+        _ => false,
+    }
 }
 
 // A file is found, and is a regular one.
-pub fn is_regular(a: Facts) -> bool
+pub fn is_regular(a: Option<Facts>) -> bool
     ensures { result ≡ is_regular a }
 {
-    a.found & (a.mode / 4096 % 16 == 8)
+    a.is_some_and(|a| a.mode / 4096 % 16 == 8)
 }
 
 // The bits of the mode that say who may do what.
