@@ -3,6 +3,7 @@
 // shares no code with the crates.
 #![tactic(auto)]
 
+mod lent;
 mod long;
 mod on_profiles;
 mod stream;
@@ -14,25 +15,22 @@ use script::show;
 
 // One case: the number of the call, then what the call takes.
 fn case() {
-    let mut text = [0u8; 16384];
-    script::read_case(&mut text);
-    let call = script::number(&text, 0);
-    let which = call.value;
-    let at = call.next;
-    match which {
-        1 => table::build(&text, at),
-        2 => table::shipped(&text, at),
-        3 => word::index(&text, at),
-        4 => word::word(&text, at),
-        5 => word::find(&text, at),
-        6 => on_profiles::published(&text, at),
-        7 => on_profiles::rate(&text, at),
-        8 => stream::write(&text, at),
-        9 => stream::read(&text, at),
-        10 => stream::join(&text, at),
-        11 => stream::turn(&text, at),
-        12 => long::stream(&text, at),
-        13 => texts::reply_text(&text, at),
+    let mut text = [0; 16384];
+    let mut case = script::next_case(&mut text);
+    match case.number() {
+        1 => table::build(&mut case),
+        2 => table::shipped(&mut case),
+        3 => word::index(&mut case),
+        4 => word::word(&mut case),
+        5 => word::find(&mut case),
+        6 => on_profiles::published(&mut case),
+        7 => on_profiles::rate(&mut case),
+        8 => stream::write(&mut case),
+        9 => stream::read(&mut case),
+        10 => stream::join(&mut case),
+        11 => stream::turn(&mut case),
+        12 => long::stream(&mut case),
+        13 => texts::reply_text(&mut case),
         _ => show::end(),
     }
 }

@@ -1,9 +1,8 @@
 // The calls on published profiles and rates.
-use script::{given, show};
+use script::{Case, show};
 
-pub fn published(text: &[u8], at: usize) {
-    let row = script::count(text, at);
-    let p = catalogue::published_profile(row.n);
+pub fn published(case: &mut Case) {
+    let p = catalogue::published_profile(case.count());
     show::reply(p.reply);
     show::count(p.q);
     show::count(p.x);
@@ -12,15 +11,11 @@ pub fn published(text: &[u8], at: usize) {
     show::end();
 }
 
-pub fn rate(text: &[u8], at: usize) {
-    let mut table = [0u64; 1300];
-    let given = given::with_table(text, at, &mut table);
-    let words = script::count(text, given.next);
-    let r = catalogue::rate_of_words(
-        given.profile,
-        parts::first_limbs(&table, given.limbs),
-        words.n,
-    );
+pub fn rate(case: &mut Case) {
+    let p = case.profile();
+    let mut limbs = [0; 1300];
+    let table = case.table(&mut limbs);
+    let r = catalogue::rate_of_words(p, table, case.count());
     show::reply(r.reply);
     show::count(r.bits);
     show::count(r.cells);

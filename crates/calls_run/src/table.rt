@@ -1,34 +1,30 @@
 // The calls that write a table.
+use parts::{first, first_mut};
 use replies::Written;
-use script::{given, lent, show};
+use script::show::MARKED_LIMB;
+use script::{Case, show};
 
-// What a call answers and leaves: a digest of all limbs, and the last row written.
-fn written(w: Written, limbs: &[u64]) {
+// What a call answers that writes into as many limbs as the case lends, a digest of all limbs, and the
+// last row written.
+fn written<F: FnOnce(&mut [u64]) -> Written>(case: &mut Case, call: F)
+    requires { F.IsAlwaysCallable call }
+{
+    let mut limbs = [MARKED_LIMB; 1400];
+    let w = call(first_mut(&mut limbs, case.count()));
     show::written(w);
-    show::digest(limbs);
-    let written = w.count;
-    if 10 <= written {
-        if written <= limbs.len() {
-            show::limbs(&limbs[written - 10..written]);
-        }
+    show::digest(&limbs);
+    if let Some(row) = first(&limbs, w.count).last_chunk::<10>() {
+        show::numbers(row);
     }
     show::end();
 }
 
-pub fn build(text: &[u8], at: usize) {
-    let given = given::profile(text, at);
-    let room = script::count(text, given.next);
-    let mut limbs = [0u64; 1400];
-    show::mark_limbs(&mut limbs);
-    let w = tables::build(given.profile, lent::limbs(&mut limbs, room.n));
-    written(w, &limbs);
+pub fn build(case: &mut Case) {
+    let p = case.profile();
+    written(case, |limbs| tables::build(p, limbs));
 }
 
-pub fn shipped(text: &[u8], at: usize) {
-    let m = script::count(text, at);
-    let room = script::count(text, m.next);
-    let mut limbs = [0u64; 1400];
-    show::mark_limbs(&mut limbs);
-    let w = tables::shipped(m.n, lent::limbs(&mut limbs, room.n));
-    written(w, &limbs);
+pub fn shipped(case: &mut Case) {
+    let m = case.count();
+    written(case, |limbs| tables::shipped(m, limbs));
 }

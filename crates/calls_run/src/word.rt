@@ -1,47 +1,34 @@
 // The calls on one word and on one run of cells.
-use numbers::Index;
-use script::{given, lent, show};
+use crate::lent;
+use script::show::MARKED_CELL;
+use script::{Case, show};
 
-pub fn index(text: &[u8], at: usize) {
-    let mut table = [0u64; 1300];
-    let given = given::with_table(text, at, &mut table);
-    let mut cells = [0u8; 200];
-    let c = script::runs(text, given.next, &mut cells);
-    let r = index_of_word::index(
-        given.profile,
-        parts::first_limbs(&table, given.limbs),
-        parts::first_cells(&cells, c.n),
-    );
+pub fn index(case: &mut Case) {
+    let p = case.profile();
+    let mut limbs = [0; 1300];
+    let table = case.table(&mut limbs);
+    let mut cells = [0; 200];
+    let word = case.runs(&mut cells);
+    let r = index_of_word::index(p, table, word);
     show::reply(r.reply);
-    let limbs = r.index.0;
-    show::limbs(&limbs);
+    show::numbers(&r.index.0);
     show::end();
 }
 
-pub fn word(text: &[u8], at: usize) {
-    let mut table = [0u64; 1300];
-    let given = given::with_table(text, at, &mut table);
-    let mut limbs = [0u64; 10];
-    let room = script::count(text, given::limbs(text, given.next, &mut limbs));
-    let i = Index(limbs);
-    let mut out = [0u8; 200];
-    show::mark_cells(&mut out);
-    let w = word_of_index::word(
-        given.profile,
-        parts::first_limbs(&table, given.limbs),
-        i,
-        lent::cells(&mut out, room.n),
-    );
-    show::written(w);
-    show::cells(parts::first_cells(&out, room.n));
-    show::end();
+pub fn word(case: &mut Case) {
+    let p = case.profile();
+    let mut limbs = [0; 1300];
+    let table = case.table(&mut limbs);
+    let index = case.index();
+    lent::cells(case, &mut [MARKED_CELL; 200], |out| {
+        word_of_index::word(p, table, index, out)
+    });
 }
 
-pub fn find(text: &[u8], at: usize) {
-    let q = script::count(text, at);
-    let x = script::count(text, q.next);
-    let mut cells = [0u8; 65600];
-    let c = script::runs(text, x.next, &mut cells);
-    show::reply(cells::find(q.n, x.n, parts::first_cells(&cells, c.n)));
+pub fn find(case: &mut Case) {
+    let q = case.count();
+    let x = case.count();
+    let mut cells = [0; 65600];
+    show::reply(cells::find(q, x, case.runs(&mut cells)));
     show::end();
 }

@@ -9,7 +9,7 @@ use script::show;
 fn answered(written: Written, lent: &[u8]) {
     show::reply(written.reply);
     show::count(written.count);
-    show::cells(lent);
+    show::numbers(lent);
     show::end();
 }
 

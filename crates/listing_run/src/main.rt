@@ -3,31 +3,32 @@
 // tests/listing.py, which shares no code with the crates.
 #![tactic(auto)]
 
-use script::{lent, show};
+use parts::{first, first_mut};
+use script::show;
 
 // A text of more bytes is shown by its digest alone.
 const SHORT: usize = 200;
 
 // One case: how many bytes are lent, how many of them are shown, and the bytes that are read.
 fn case(out: &mut [u8]) {
-    let mut text = [0u8; 16384];
-    script::read_case(&mut text);
-    let room = script::count(&text, 0);
-    let shown = script::count(&text, room.next);
-    let mut line = [0u8; 40];
-    let given = script::runs(&text, shown.next, &mut line);
-    show::mark_cells(lent::cells(out, shown.n));
-    let w = code_as_text::list(parts::first_cells(&line, given.n), lent::cells(out, room.n));
+    let mut text = [0; 16384];
+    let mut case = script::next_case(&mut text);
+    let room = case.count();
+    let shown = case.count();
+    let mut line = [0; 40];
+    let line = case.runs(&mut line);
+    first_mut(out, shown).fill(show::MARKED_CELL);
+    let w = code_as_text::list(line, first_mut(out, room));
     show::written(w);
-    show::digest_of_cells(parts::first_cells(out, shown.n));
+    show::digest(first(out, shown));
     show::end();
     if w.count < SHORT {
-        io::write_all(1, parts::first_cells(out, w.count));
+        io::write_all(1, first(out, w.count));
     }
 }
 
 fn main() {
-    let mut out = [0u8; code_as_text::MOST_BYTES];
+    let mut out = [0; code_as_text::MOST_BYTES];
     for _ in 0..script::cases() {
         case(&mut out);
     }

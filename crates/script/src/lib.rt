@@ -1,36 +1,106 @@
 // What the test programs share: reading a script of cases, which are numbers, profiles, tables and
-// runs of cells, lending a part of an output, and showing answers. A script is how many cases there
-// are, and then the cases, each with its length in bytes before it. In a case only the digits count;
-// what stands between numbers is for the reader.
+// runs of cells, and showing answers. A script is how many cases there are, and then the cases, each
+// with its length in bytes before it. In a case only the digits count; what stands between numbers is
+// for the reader.
 #![tactic(auto)]
 
-ghost use Rattle.std.specs.Prelude.{◌≤◌};
+use numbers::Index;
+use replies::Profile;
+use std::array;
+use std::slice::Iter;
 
-use std::num::wrapping_add_u64;
-
-pub mod given;
-pub mod lent;
 pub mod show;
 
-// A number of the script, and the place behind it.
-#[derive(Clone, Copy)]
-pub struct Read {
-    pub value: u64,
-    pub next: usize,
+// Ten times a number below it has at most 64 bits. No number of a script is longer.
+const TENTH: u64 = u64::MAX / 10 + 1;
+
+// The bytes of a case that are not read yet.
+#[derive(Drop)]
+pub struct Case<'a> {
+    bytes: Iter<'a, u8>,
 }
 
-// A count of the script, or of what was filled from it, and the place behind it.
-#[derive(Clone, Copy)]
-pub struct Counted {
-    pub n: usize,
-    pub next: usize,
+// A digit's value.
+fn digit(byte: &u8) -> Option<u64> {
+    match *byte {
+        b'0'..=b'9' => Some(u64::from(*byte - b'0')),
+        _ => None,
+    }
+}
+
+impl<'a> Case<'a> {
+    fn new(text: &'a [u8]) -> Case<'a> {
+        Case { bytes: text.iter() }
+    }
+
+    // The next number, or 0 where there is none.
+    pub fn number(&mut self) -> u64 {
+        self.bytes
+            .by_ref()
+            .skip_while(|byte| !byte.is_ascii_digit())
+            .map_while(digit)
+            .fold(0, |n, d| (n % TENTH * 10).wrapping_add(d))
+    }
+
+    // The next number, as a count.
+    pub fn count(&mut self) -> usize {
+        self.number() as usize
+    }
+
+    // The low byte of the next number.
+    pub fn byte(&mut self) -> u8 {
+        (self.number() % 256) as u8
+    }
+
+    // A profile: q, m and x.
+    pub fn profile(&mut self) -> Profile {
+        let q = self.count();
+        let m = self.count();
+        let x = self.count();
+        Profile { q, m, x }
+    }
+
+    // An index: its ten limbs.
+    pub fn index(&mut self) -> Index {
+        Index(array::from_fn(|_| self.number()))
+    }
+
+    // A table: the profile that it is built for, its damage, and how many of its limbs are lent.
+    pub fn table<'t>(&mut self, limbs: &'t mut [u64]) -> &'t [u64] {
+        let _ = tables::build(self.profile(), limbs);
+        self.damage(limbs);
+        parts::first(limbs, self.count())
+    }
+
+    // Damage to a table: a row, a limb of it, and what is added to that limb.
+    fn damage(&mut self, table: &mut [u64]) {
+        let row = self.count().min(200);
+        let limb = self.count().min(9);
+        let added = self.number();
+        if let Some(limb) = table.get_mut(row * 10 + limb) {
+            *limb = limb.wrapping_add(added);
+        }
+    }
+
+    // Cells in runs: how many runs, and then for each its level and how many cells, as far as there is
+    // room.
+    pub fn runs<'c>(&mut self, cells: &'c mut [u8]) -> &'c [u8] {
+        let mut filled = 0;
+        for _ in 0..self.number() {
+            let level = self.byte();
+            let end = filled + self.count().min(cells.len() - filled);
+            cells[filled..end].fill(level);
+            filled = end;
+        }
+        &cells[..filled]
+    }
 }
 
 // A number of the script that stands alone in eight bytes.
 fn alone() -> usize {
-    let mut bytes = [0u8; 8];
+    let mut bytes = [0; 8];
     io::read_full(0, &mut bytes);
-    count(&bytes, 0).n
+    Case::new(&bytes).count()
 }
 
 // How many cases the script has. It is read first.
@@ -38,94 +108,8 @@ pub fn cases() -> usize {
     alone()
 }
 
-// Reads the next case of the script.
-pub fn read_case(text: &mut [u8]) {
-    io::read_full(0, lent::cells(text, alone()));
-}
-
-// A digit's value, or 10 for any other byte.
-fn digit(byte: u8) -> u64 {
-    if byte < b'0' {
-        return 10;
-    }
-    if b'9' < byte {
-        return 10;
-    }
-    (byte - b'0') as u64
-}
-
-// The place of the first digit from `at` on, or the script's end.
-fn first_digit(script: &[u8], at: usize) -> usize {
-    let mut i = at;
-    while i < script.len() {
-        if digit(script[i]) < 10 {
-            return i;
-        }
-        i += 1;
-    }
-    i
-}
-
-// The first number from `at` on; 0 where there is none.
-pub fn number(script: &[u8], at: usize) -> Read {
-    let mut value = 0;
-    let mut i = first_digit(script, at);
-    while i < script.len() {
-        let d = digit(script[i]);
-        if 9 < d {
-            return Read { value, next: i };
-        }
-        value = wrapping_add_u64((value % 1844674407370955162) * 10, d);
-        i += 1;
-    }
-    Read { value, next: i }
-}
-
-// The first number from `at` on, as a count.
-pub fn count(script: &[u8], at: usize) -> Counted {
-    let read = number(script, at);
-    Counted {
-        n: read.value as usize,
-        next: read.next,
-    }
-}
-
-// A count, or `most` where it is more.
-fn at_most(n: usize, most: usize) -> usize
-    ensures { result ≤ most }
-{
-    if n < most {
-        return n;
-    }
-    most
-}
-
-// Fills cells with runs: how many runs, then for each its level and how many
-// cells. All cells together, as far as there is room, are counted.
-pub fn runs(script: &[u8], at: usize, cells: &mut [u8]) -> Counted {
-    let how_many = number(script, at);
-    let mut next = how_many.next;
-    let mut filled = 0;
-    for _ in 0..how_many.value {
-        let level = number(script, next);
-        let times = number(script, level.next);
-        filled = run(cells, filled, (level.value % 256) as u8, times.value);
-        next = times.next;
-    }
-    Counted { n: filled, next }
-}
-
-// One run of a level from `at` on, as far as there is room; the place behind it.
-fn run(cells: &mut [u8], at: usize, level: u8, times: u64) -> usize {
-    let mut i = at;
-    let mut left = times;
-    while 0 < left {
-        if cells.len() <= i {
-            return i;
-        }
-        cells[i] = level;
-        i += 1;
-        left -= 1;
-    }
-    i
+// The next case of the script, read into a buffer of zeros.
+pub fn next_case(text: &mut [u8]) -> Case<'_> {
+    io::read_full(0, parts::first_mut(text, alone()));
+    Case::new(text)
 }
