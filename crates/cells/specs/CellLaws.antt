@@ -1,5 +1,5 @@
 -- Laws of numbers 10, 11 and 7: which place they are given at, and what cells that are not refused are.
-use Rattle.std.specs.Prelude.{◌≡◌, refl, true, not, List, [], ◌∷◌, ℕ, zero, suc, ◌≤◌, ◌<◌, ltb, length, get_or}
+use Rattle.std.specs.Prelude.{◌≡◌, refl, true, not, Some, None, List, [], ◌∷◌, ℕ, zero, suc, ◌≤◌, ◌<◌, ltb, leb, length, get_or, position}
 use Rattle.std.proofs.Common.{sym, arith, leb-false, ltb-true, le-leb, lt-ltb}
 use Rattle.std.proofs.Math.Bool.{and-eq-true_iff}
 use Rattle.std.proofs.lemmas.Bool.{lt-leb, not-true}
@@ -9,6 +9,7 @@ use Rattle.listing.specs.Listing.{all_below}
 use Rattle.patterns.specs.Pattern.{Patterns, pattern_up_to, pattern_free}
 use Rattle.code.specs.Code.{published, legal}
 use Rattle.cells.specs.Finding.{cell_refusal, pattern_at, pattern_refusal, cells_refusal}
+use Rattle.cells.specs.FirstLaws.{found_refused, none_found}
 use Rattle.cells.specs.QuickLaws.{reaches_at}
 
 -- 10 is given at the first cell at or above q, ..
@@ -22,6 +23,15 @@ first_cell_refused q cells i before here inside =
 pub no_cell_refused : (q : ℕ) (cells : List ℕ) → Nowhere (reaches_at q cells) 0 (length cells) → done ≡ cell_refusal q cells
 unfolding cell_refusal
 no_cell_refused q cells none = sym (none_refused (reaches_at q cells) (length cells) 10 none)
+
+-- That is the first cell that is sought.
+pub cell_found : (q : ℕ) (cells : List ℕ) (place : ℕ) → position (leb q) cells ≡ Some place → refused 10 place ≡ cell_refusal q cells
+unfolding cell_refusal
+cell_found q cells place e = found_refused (leb q) cells 10 place e
+
+pub no_cell_found : (q : ℕ) (cells : List ℕ) → position (leb q) cells ≡ None → done ≡ cell_refusal q cells
+unfolding cell_refusal
+no_cell_found q cells e = none_found (leb q) cells 10 e
 
 -- 11 is given at the first place at which a pattern begins, ..
 pub first_pattern_refused : (S : Patterns) (cells : List ℕ) (i : ℕ) → Nowhere (pattern_at S cells) 0 i → pattern_at S cells i ≡ true → i < length cells

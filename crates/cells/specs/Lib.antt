@@ -2,6 +2,7 @@
 pub mod Finding
 pub mod Examples
 pub mod BeginsLaws
+pub mod FirstLaws
 pub mod QuickLaws
 pub mod ScanLaws
 pub mod CellLaws

@@ -24,23 +24,19 @@ pub flag_more : (hit : Bool) {test : ℕ → Bool} {place end : ℕ} → (hit �
 flag_more false before none = nowhere_more (before refl) none
 flag_more true before none = absurd (true≢false none)
 
--- The passes for k from 2 on, below an end that is at most x + 2, have seen nothing.
-pub record Passed (top x : ℕ) (cells : List ℕ) (end : ℕ) : Type 0 where
-  pub least : 2 ≤ end
-  pub most : end ≤ x + 2
-  pub none : (k : ℕ) → 2 ≤ k → k < end → Nowhere (tops_at top k cells) k (length cells)
+-- One place more of a pass, the cells of which are seen as a run from the first top to the last.
+pub tops_more : (hit : Bool) (top k place : ℕ) (cells : List ℕ) {first next last : ℕ} → first ≡ get_or cells (place + 0) 0 → next ≡ get_or cells (place + 1) 0
+    → last ≡ get_or cells (place + k) 0 → (hit ≡ false → Nowhere (tops_at top k cells) k (k + place))
+    → (hit || ((eqb first top && not (eqb next top)) && eqb last top)) ≡ false → Nowhere (tops_at top k cells) k (k + place + 1)
+tops_more hit top k place cells e f g before none =
+    let back : k + place - k ≡ place + 0 = omega arith in
+    let there : k + place ≡ place + k = omega arith in
+    let next : k + place - k + 1 ≡ place + 1 = omega arith in
+    flag_more hit before (rw (next, back, there, ← e, ← f, ← g) none)
 
-pub passed_none : {top x : ℕ} {cells : List ℕ} → Passed top x cells 2
-passed_none = record { least = omega arith; most = omega arith; none = λ k l h. absurd (omega arith) }
-
-pub passed_more : {top x : ℕ} {cells : List ℕ} {end : ℕ} → Passed top x cells end → end ≤ x + 1 → Nowhere (tops_at top end cells) end (length cells)
-    → Passed top x cells (end + 1)
-passed_more {top} {cells} {end} p more here =
-    record {
-      least = omega arith;
-      most = omega arith;
-      none = λ k l h. below_more (λ (j : ℕ). 2 ≤ j → Nowhere (tops_at top j cells) j (length cells)) end (λ j b a. p.none j a b) (λ a. here) k h l;
-    }
+-- No pass for the distances up to x + 1 sees anything.
+abbrev pub NonePasses : ℕ → ℕ → List ℕ → Type 0
+NonePasses top x cells = (k : ℕ) → 2 ≤ k → k < x + 2 → Nowhere (tops_at top k cells) k (length cells)
 
 -- A pattern is seen by the pass for the distance of its two tops.
 seen : (top x : ℕ) (cells : List ℕ) (i : ℕ) (b : Begins top x cells i) → tops_at top (b.closing - i) cells b.closing ≡ true
@@ -51,9 +47,8 @@ seen top x cells i b =
     rw (back, eq-eqb (get_or cells i 0) top b.first, other, eq-eqb (get_or cells b.closing 0) top b.last)
 
 -- Where no pass up to x + 1 has seen anything, there is no pattern.
-pub all_passed : {top x : ℕ} {cells : List ℕ} {end : ℕ} → Passed top x cells end → x + 1 < end
-    → Nowhere (pattern_at (below_top top x) cells) 0 (length cells)
-all_passed {top} {x} {cells} p past i l h = no_pattern top x cells i (λ b.
+pub all_passed : (top x : ℕ) (cells : List ℕ) → NonePasses top x cells → Nowhere (pattern_at (below_top top x) cells) 0 (length cells)
+all_passed top x cells p i l h = no_pattern top x cells i (λ b.
     let k = b.closing - i in
-    let none = p.none k (omega (arith, b.apart)) (omega (arith, b.within)) b.closing (omega arith) b.inside in
+    let none = p k (omega (arith, b.apart)) (omega (arith, b.within)) b.closing (omega arith) b.inside in
     true≢false (sym (seen top x cells i b) ∙ none))

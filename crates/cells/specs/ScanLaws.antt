@@ -1,78 +1,70 @@
--- Laws of the scan from a top: what the cells after it say of a pattern that begins there.
-use Rattle.std.specs.Prelude.{◌≡◌, refl, Bool, true, false, ◌&&◌, List, ℕ, ◌+◌, ◌-◌, ◌≤◌, ◌<◌, ltb, eqb, length, get_or}
-use Rattle.std.proofs.Common.{sym, le_antisymm, arith, below_more, ltb-true, ltb-false, eqb-true}
+-- Laws of the scan from a top: what the cells behind it say of a pattern that begins there.
+use Rattle.std.specs.Prelude.{◌≡◌, refl, Bool, true, false, ◌&&◌, Some, None, List, ◌∷◌, ℕ, zero, suc, ◌≤◌, ◌<◌, ltb, leb, eqb, length, get_or, position}
+use Rattle.std.proofs.Common.{sym, subst, le_antisymm, arith, ltb-true, ltb-false, leb-true, leb-false, eqb-true}
 use Rattle.std.proofs.lemmas.Bool.{eqb-false}
+use Rattle.std.proofs.lemmas.List.Quantifiers.{position-Some}
 use Rattle.code.specs.Code.{below_top}
 use Rattle.cells.specs.Finding.{pattern_at}
 use Rattle.cells.specs.BeginsLaws.{LowBetween, Begins, begins_pattern, no_pattern}
+use Rattle.cells.specs.FirstLaws.{passes_nowhere}
 
--- No pattern begins at a cell that is no top.
-pub begins_with_top : (top x : ℕ) (cells : List ℕ) (i : ℕ) → (get_or cells i 0 ≡ top → ⊥) → false ≡ pattern_at (below_top top x) cells i
-begins_with_top top x cells i other = sym (no_pattern top x cells i (λ b. other b.first))
+-- No pattern begins where there are no cells, nor at a cell that is no top.
+pub no_cell_begins : (top x : ℕ) (run : List ℕ) → length run ≡ 0 → false ≡ pattern_at (below_top top x) run 0
+no_cell_begins top x run none = sym (no_pattern top x run 0 (λ b. omega (arith, b.inside)))
 
--- From a top at i the cells before another place, no further than the reach, are below top.
-pub record Walked (top x : ℕ) (cells : List ℕ) (i end : ℕ) : Type 0 where
-  pub first : get_or cells i 0 ≡ top
-  pub after : i < end
-  pub near : end ≤ i + x + 1
-  pub inside : end ≤ length cells
-  pub below : LowBetween top cells i end
+pub begins_with_top : (top x first : ℕ) (behind : List ℕ) → (first ≡ top → ⊥) → false ≡ pattern_at (below_top top x) (first ∷ behind) 0
+begins_with_top top x first behind other = sym (no_pattern top x (first ∷ behind) 0 (λ b. other b.first))
 
-one_more : (top : ℕ) (cells : List ℕ) (i end : ℕ) → LowBetween top cells i end → get_or cells end 0 < top → LowBetween top cells i (end + 1)
-one_more top cells i end below here k l h =
-    below_more (λ (j : ℕ). i < j → get_or cells j 0 < top) end (λ j b a. below j a b) (λ a. here) k h l
-
-module _ {top x : ℕ} {cells : List ℕ} {i : ℕ} where
-  pub walked_none : i < length cells → get_or cells i 0 ≡ top → Walked top x cells i (i + 1)
-  walked_none some first =
-      record { first = first; after = omega arith; near = omega arith; inside = omega arith; below = λ k l h. absurd (omega arith) }
-
-  -- One cell more that is below top.
-  pub walked_more : {end : ℕ} → Walked top x cells i end → end < length cells → get_or cells end 0 < top → end - i ≤ x → Walked top x cells i (end + 1)
-  walked_more {end} w some here near =
-      record { first = w.first; after = omega arith; near = omega arith; inside = omega arith; below = one_more top cells i end w.below here }
+module _ (top x first : ℕ) (behind : List ℕ) where
+  -- Cells that do not reach top are below it.
+  below : (low : ℕ) → ((k : ℕ) → k < low → leb top (get_or behind k 0) ≡ false) → LowBetween top (first ∷ behind) 0 (suc low)
+  below low f zero i h = absurd (omega arith)
+  below low f (suc k) i h = leb-false top (get_or behind k 0) (f k (omega arith))
 
   -- The closing top is not among cells below top.
-  not_before : {end : ℕ} → LowBetween top cells i end → (b : Begins top x cells i) → end ≤ b.closing
-  not_before {end} below b = go (ltb b.closing end) refl
+  not_before : (end : ℕ) → LowBetween top (first ∷ behind) 0 end → (b : Begins top x (first ∷ behind) 0) → end ≤ b.closing
+  not_before end low b = go (ltb b.closing end) refl
     where
       go : (t : Bool) → ltb b.closing end ≡ t → end ≤ b.closing
-      go true e = absurd (omega (arith, below b.closing (omega (arith, b.apart)) (ltb-true b.closing end e), b.last))
+      go true e = absurd (omega (arith, low b.closing (omega (arith, b.apart)) (ltb-true b.closing end e), b.last))
       go false e = ltb-false b.closing end e
 
-  -- No pattern begins where the cells end before a top, ..
-  pub none_left : {end : ℕ} → Walked top x cells i end → length cells ≤ end → false ≡ pattern_at (below_top top x) cells i
-  none_left w last = sym (no_pattern top x cells i (λ b. omega (arith, not_before w.below b, b.inside)))
+  -- No pattern begins where no cell behind reaches top.
+  pub none_closes : position (leb top) behind ≡ None → false ≡ pattern_at (below_top top x) (first ∷ behind) 0
+  none_closes e =
+      sym (no_pattern top x (first ∷ behind) 0
+      (λ b. omega (arith, not_before (suc (length behind)) (below (length behind) (passes_nowhere (leb top) behind e)) b, b.inside)))
 
-  -- .. nor where more cells than the reach are below top.
-  pub none_within : {end : ℕ} → Walked top x cells i end → get_or cells end 0 < top → x < end - i → false ≡ pattern_at (below_top top x) cells i
-  none_within {end} w here far =
-      sym (no_pattern top x cells i (λ b. omega (arith, not_before (one_more top cells i end w.below here) b, b.within)))
+  module _ (low : ℕ) (e : position (leb top) behind ≡ Some low) where
+    -- A pattern closes at the first cell behind that reaches top.
+    closes_there : (b : Begins top x (first ∷ behind) 0) → suc low ≡ b.closing
+    closes_there b =
+        let p = position-Some (leb top) behind low 0 e in
+        le_antisymm (not_before (suc low) (below low p.2) b) (go (leb-true top (get_or behind low 0) p.1) (ltb (suc low) b.closing) refl)
+      where
+        go : top ≤ get_or behind low 0 → (t : Bool) → ltb (suc low) b.closing ≡ t → b.closing ≤ suc low
+        go high true s = absurd (omega (arith, b.between (suc low) (omega arith) (ltb-true (suc low) b.closing s)))
+        go high false s = ltb-false (suc low) b.closing s
 
-  -- A pattern that begins at i closes at the first cell that is not below top.
-  closes_first : {end : ℕ} → Walked top x cells i end → top ≤ get_or cells end 0 → (b : Begins top x cells i) → end ≡ b.closing
-  closes_first {end} w high b = le_antisymm (not_before w.below b) (go (ltb end b.closing) refl)
-    where
-      go : (t : Bool) → ltb end b.closing ≡ t → b.closing ≤ end
-      go true e = absurd (omega (arith, b.between end w.after (ltb-true end b.closing e)))
-      go false e = ltb-false end b.closing e
-
-  -- The first cell that is not below top decides: a pattern begins at i where it is a top and does not stand beside i.
-  pub first_decides : {end : ℕ} → Walked top x cells i end → end < length cells → top ≤ get_or cells end 0
-      → (eqb (get_or cells end 0) top && ltb 1 (end - i)) ≡ pattern_at (below_top top x) cells i
-  first_decides {end} w some high = go (eqb (get_or cells end 0) top) refl (ltb 1 (end - i)) refl
-    where
-      go : (s : Bool) → eqb (get_or cells end 0) top ≡ s → (t : Bool) → ltb 1 (end - i) ≡ t → (s && t) ≡ pattern_at (below_top top x) cells i
-      go true p true t =
-          sym (begins_pattern top x cells i
-          (record {
-            closing = end;
-            apart = omega (arith, ltb-true 1 (end - i) t);
-            within = w.near;
-            inside = some;
-            first = w.first;
-            between = w.below;
-            last = eqb-true (get_or cells end 0) top p;
-          }))
-      go true p false t = sym (no_pattern top x cells i (λ b. omega (arith, closes_first w high b, b.apart, ltb-false 1 (end - i) t)))
-      go false p t u = sym (no_pattern top x cells i (λ b. eqb-false (get_or cells end 0) top p (rw (closes_first w high b) b.last)))
+    -- So that cell decides: a pattern begins where it is a top and 1 to x cells stand before it.
+    pub first_closes : first ≡ top → ((ltb 0 low && leb low x) && eqb (get_or behind low 0) top) ≡ pattern_at (below_top top x) (first ∷ behind) 0
+    first_closes begins = go (ltb 0 low) refl (leb low x) refl (eqb (get_or behind low 0) top) refl
+      where
+        go : (s : Bool) → ltb 0 low ≡ s → (t : Bool) → leb low x ≡ t → (u : Bool) → eqb (get_or behind low 0) top ≡ u
+            → ((s && t) && u) ≡ pattern_at (below_top top x) (first ∷ behind) 0
+        go true h true i true j =
+            let p = position-Some (leb top) behind low 0 e in
+            sym (begins_pattern top x (first ∷ behind) 0
+            (record {
+              closing = suc low;
+              apart = omega (arith, ltb-true 0 low h);
+              within = omega (arith, leb-true low x i);
+              inside = omega (arith, p.0);
+              first = begins;
+              between = below low p.2;
+              last = eqb-true (get_or behind low 0) top j;
+            }))
+        go false h t i u j = sym (no_pattern top x (first ∷ behind) 0 (λ b. omega (arith, closes_there b, b.apart, ltb-false 0 low h)))
+        go true h false i u j = sym (no_pattern top x (first ∷ behind) 0 (λ b. omega (arith, closes_there b, b.within, leb-false low x i)))
+        go true h true i false j =
+            sym (no_pattern top x (first ∷ behind) 0 (λ b. eqb-false (get_or behind low 0) top j (subst (λ (n : ℕ). get_or (first ∷ behind) n 0 ≡ top) (sym (closes_there b)) b.last)))

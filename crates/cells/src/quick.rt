@@ -10,27 +10,20 @@ pub fn some_cell(level: u8, cells: &[u8]) -> bool
     ensures { result ≡ false → Nowhere (reaches_at level cells.now) 0 (length cells.now) }
 {
     let mut hit = false;
-    let mut i = 0;
-    while i < cells.len() {
-        hit = hit | (level <= cells[i]);
-        i += 1;
+    for cell in cells {
+        hit |= level <= *cell;
     }
     hit
 }
 
 // Some top has a cell that is no top after it and a top k places on: false only where none has.
 fn some_tops(top: u8, k: usize, cells: &[u8]) -> bool
-    requires { 2 ≤ k }
+    requires { (2 ≤ k) × (k ≤ 9) }
     ensures { result ≡ false → Nowhere (tops_at top k cells.now) k (length cells.now) }
 {
     let mut hit = false;
-    let mut i = k;
-    while i < cells.len() {
-        let first = cells[i - k];
-        let next = cells[i - k + 1];
-        let last = cells[i];
-        hit = hit | ((first == top) & (next != top) & (last == top));
-        i += 1;
+    for run in cells.windows(k + 1) {
+        hit |= (run[0] == top) & (run[1] != top) & (run[k] == top);
     }
     hit
 }
@@ -40,12 +33,5 @@ pub fn some_pattern(top: u8, x: usize, cells: &[u8]) -> bool
     requires { x ≤ 8 }
     ensures { result ≡ false → Nowhere (pattern_at (below_top top x) cells.now) 0 (length cells.now) }
 {
-    let mut k = 2;
-    while k <= x + 1 {
-        if some_tops(top, k, cells) {
-            return true;
-        }
-        k += 1;
-    }
-    false
+    (2..x + 2).any(|k| some_tops(top, k, cells))
 }

@@ -1,56 +1,64 @@
 // The first place that is to be refused, sought place by place.
-ghost use Rattle.std.specs.Prelude.{◌≡◌, ◌<◌, length};
+ghost use Rattle.std.specs.Prelude.{◌≡◌, true, leb, ◌≤◌, ◌<◌, length, position};
+ghost use Rattle.std.specs.Option.{MatchOption};
 ghost use Rattle.code.specs.Code.{below_top};
+ghost use Rattle.replies.specs.Answers.{reply_of};
+ghost use Rattle.replies.specs.ReplyLaws.{Nowhere};
 ghost use Rattle.cells.specs.Finding.{cell_refusal, pattern_at, pattern_refusal};
 
-use replies::Reply;
+use replies::{Refusal, Why};
 
-// The first cell at or above q.
-pub fn first_cell(q: u8, cells: &[u8]) -> Reply
-    ensures { result ≡ cell_refusal q cells.now }
+// The place of the first cell at or above a level.
+fn first_reaching(level: u8, cells: &[u8]) -> Option<usize>
+    ensures { result ≡ position (leb level) cells.now }
 {
-    let mut i = 0;
-    while i < cells.len() {
-        if q <= cells[i] {
-            return replies::refused_at(replies::CELL, i);
-        }
-        i += 1;
-    }
-    replies::done()
+    cells.iter().position(|cell| level <= *cell)
 }
 
-// A forbidden pattern has its first top at a place.
-fn begins(top: u8, x: usize, cells: &[u8], place: usize) -> bool
-    requires { place < length cells.now }
-    ensures { result ≡ pattern_at (below_top top x) cells.now place }
+// The first cell at or above q.
+#[tactic(auto, using(crate::specs::CellLaws::cell_found, crate::specs::CellLaws::no_cell_found))]
+pub fn first_cell(q: u8, cells: &[u8]) -> Result<(), Refusal>
+    ensures { reply_of result ≡ cell_refusal q cells.now }
 {
-    if cells[place] != top {
+    match first_reaching(q, cells) {
+        Some(place) => Err(Why::Cell.at(place)),
+        None => Ok(()),
+    }
+}
+
+// A run of cells begins with a forbidden pattern: with a top, and the first cell behind it that is not below top is
+// a top too, with 1 to x cells between them.
+#[tactic(auto, using(crate::specs::ScanLaws::no_cell_begins, crate::specs::ScanLaws::begins_with_top, crate::specs::ScanLaws::none_closes, crate::specs::ScanLaws::first_closes))]
+fn begins(top: u8, x: usize, run: &[u8]) -> bool
+    ensures { result ≡ pattern_at (below_top top x) run.now 0 }
+{
+    let Some((first, behind)) = run.split_first() else {
+        return false;
+    };
+    if *first != top {
         return false;
     }
-    let mut i = place + 1;
-    while i < cells.len() {
-        let cell = cells[i];
-        if top <= cell {
-            return (cell == top) & (1 < i - place);
-        }
-        if x < i - place {
-            return false;
-        }
-        i += 1;
+    match first_reaching(top, behind) {
+        Some(low) => (0 < low) & (low <= x) & (behind[low] == top),
+        None => false,
     }
-    false
+}
+
+// The place of the first forbidden pattern: that of its first top.
+fn first_begun(top: u8, x: usize, cells: &[u8]) -> Option<usize>
+    ensures { let begun = pattern_at (below_top top x) cells.now in
+        MatchOption result (Nowhere begun 0 (length cells.now)) (λ i. (0 ≤ i) × (i < length cells.now) × (begun i ≡ true) × Nowhere begun 0 i) }
+{
+    (0..cells.len()).find(|place| begins(top, x, &cells[*place..]))
 }
 
 // The first forbidden pattern, by its first top.
-pub fn first_pattern(top: u8, x: usize, cells: &[u8]) -> Reply
-    ensures { result ≡ pattern_refusal (below_top top x) cells.now }
+#[tactic(auto, using(crate::specs::CellLaws::first_pattern_refused, crate::specs::CellLaws::no_pattern_refused))]
+pub fn first_pattern(top: u8, x: usize, cells: &[u8]) -> Result<(), Refusal>
+    ensures { reply_of result ≡ pattern_refusal (below_top top x) cells.now }
 {
-    let mut place = 0;
-    while place < cells.len() {
-        if begins(top, x, cells, place) {
-            return replies::refused_at(replies::PATTERN, place);
-        }
-        place += 1;
+    match first_begun(top, x, cells) {
+        Some(place) => Err(Why::Pattern.at(place)),
+        None => Ok(()),
     }
-    replies::done()
 }

@@ -1,34 +1,7 @@
--- `cells::find` meets its contract: 1, 3 and 7 decide in turn, or leave it to the cells.
-use Rattle.replies.specs.ReplyLaws.{decides, leaves, in_range_lem}
-use Rattle.cells.specs.Finding.{finding}
+-- `cells::find` meets its contract: q and x that are not refused lie in their ranges.
+use Rattle.std.proofs.Common.{refl}
+use Rattle.replies.specs.ReplyLaws.{in_range_lem}
 use Rattle.cells.proofs.find.Goals as goal
 
-pub returns-then-levels-ne-DONE : goal.returns-then-levels-ne-DONE
-unfolding finding
-returns-then-levels-ne-DONE c = decides _ _ _ c.refused_levels-levels.ensures c.if-levels-ne-DONE.true
-
-pub returns-then-reach-ne-DONE : goal.returns-then-reach-ne-DONE
-unfolding finding
-returns-then-reach-ne-DONE c =
-    leaves _ _ _ _ c.refused_levels-levels.ensures c.if-levels-ne-DONE.false
-    (decides _ _ _ c.refused_reach-reach.ensures c.if-reach-ne-DONE.true)
-
-pub returns-then-length-ne-DONE : goal.returns-then-length-ne-DONE
-unfolding finding
-returns-then-length-ne-DONE c =
-    leaves _ _ _ _ c.refused_levels-levels.ensures c.if-levels-ne-DONE.false
-    (leaves _ _ _ _ c.refused_reach-reach.ensures c.if-reach-ne-DONE.false
-    (decides _ _ _ c.refused_if-length.ensures c.if-length-ne-DONE.true))
-
-pub refused_cells-requires : goal.refused_cells-requires
-refused_cells-requires c = (
-  in_range_lem _ _ _ 0 c.refused_levels-levels.ensures c.if-levels-ne-DONE.false,
-  in_range_lem _ _ _ 2 c.refused_reach-reach.ensures c.if-reach-ne-DONE.false,
-)
-
-pub returns : goal.returns
-unfolding finding
-returns c =
-    leaves _ _ _ _ c.refused_levels-levels.ensures c.if-levels-ne-DONE.false
-    (leaves _ _ _ _ c.refused_reach-reach.ensures c.if-reach-ne-DONE.false
-    (leaves _ _ _ _ c.refused_if-length.ensures c.if-length-ne-DONE.false c.refused_cells.ensures))
+pub check_cells-requires : goal.check_cells-requires
+check_cells-requires c = (in_range_lem _ _ _ 0 c.in_ok-check_levels.ensures refl, in_range_lem _ _ _ 2 c.in_ok-check_reach.ensures refl)
