@@ -3,13 +3,9 @@
 // code with it.
 #![tactic(auto)]
 
-ghost use Rattle.std.specs.Prelude.{◌≡◌, ◌≤◌};
+ghost use Rattle.std.specs.Prelude.{◌≤◌};
 
-use limbs::Order;
-
-const LINE: [u8; 1] = [b'\n'];
-
-const SPACE: [u8; 1] = [b' '];
+use std::cmp::Ordering;
 
 // The next number of the draw, below 2^31.
 fn draw(state: u64) -> u64 {
@@ -21,135 +17,125 @@ fn limb(state: u64) -> u64 {
     let a = draw(state);
     let b = draw(a);
     let c = draw(b);
-    if c % 4 == 0 {
-        return 0;
+    match c % 4 {
+        0 => 0,
+        1 => u64::MAX,
+        low => ((a % (1 << 31)) << 33) + ((b % (1 << 31)) << 2) + low,
     }
-    if c % 4 == 1 {
-        return 18446744073709551615;
-    }
-    (a % 2147483648) * 8589934592 + (b % 2147483648) * 4 + c % 4
 }
 
 // Fills the limbs from the draw.
 fn fill(limbs: &mut [u64], state: u64) {
     let mut s = state;
-    let mut i = 0;
-    while i < limbs.len() {
+    for l in limbs.iter_mut() {
         s = draw(s);
-        limbs[i] = limb(s);
-        i += 1;
+        *l = limb(s);
     }
 }
 
 // Prints an answer and the limbs behind it.
 fn show(answer: u64, limbs: &[u64]) {
     io::print_hex(1, answer, 1);
-    let mut i = 0;
-    while i < limbs.len() {
-        io::write_all(1, &SPACE);
-        io::print_hex(1, limbs[i], 1);
-        i += 1;
+    for l in limbs {
+        io::write_all(1, b" ");
+        io::print_hex(1, *l, 1);
     }
-    io::write_all(1, &LINE);
+    io::write_all(1, b"\n");
 }
 
-// A count as a number to print.
-fn wide(n: usize) -> u64
-    ensures { result ≡ n }
-{
-    n as u64
+// What the functions are tried on: the first n of twelve limbs, a row of n limbs that begins at `at` in
+// fourteen, and a factor.
+#[derive(Clone, Copy)]
+struct Case {
+    acc: [u64; 12],
+    n: usize,
+    rows: [u64; 14],
+    at: usize,
+    k: u64,
+    ghost within: { (n ≤ 10) × (at ≤ 4) },
 }
 
-// An order as a number to print.
-fn order_number(order: Order) -> u64 {
-    match order {
-        Order::Less => 0,
-        Order::Equal => 1,
-        Order::Greater => 2,
+impl Case {
+    // The case that is drawn from `state`.
+    fn drawn(state: u64, n: usize, at: usize) -> Case
+        requires { (n ≤ 10) × (at ≤ 4) }
+    {
+        let k = limb(state);
+        let mut rows = [0; 14];
+        fill(&mut rows, draw(k));
+        let mut acc = [0; 12];
+        fill(&mut acc, state);
+        Case {
+            acc,
+            n,
+            rows,
+            at,
+            k,
+        }
+    }
+
+    fn sum(self) {
+        let mut acc = self.acc;
+        let carry = limbs::add(&mut acc, self.n, &self.rows, self.at);
+        show(carry, &acc);
+    }
+
+    fn difference(self) {
+        let mut acc = self.acc;
+        let borrow = limbs::subtract(&mut acc, self.n, &self.rows, self.at);
+        show(borrow, &acc);
+    }
+
+    fn product(self) {
+        let mut acc = self.acc;
+        let carry = limbs::times(&mut acc, self.n, self.k);
+        show(carry, &acc);
+    }
+
+    fn multiple_added(self) {
+        let mut acc = self.acc;
+        let carry = limbs::add_multiple(&mut acc, self.n, &self.rows, self.at, self.k);
+        show(carry, &acc);
+    }
+
+    // The row is k times in the n + 1 limbs that it is taken from, and goes k / 2 times.
+    fn multiple_taken(self) {
+        let mut acc = self.acc;
+        let mut row = [0; 12];
+        limbs::add(&mut row, self.n, &self.rows, self.at);
+        let carry = limbs::add_multiple(&mut acc, self.n, &row, 0, self.k);
+        acc[self.n] = carry;
+        limbs::subtract_multiple(&mut acc, self.n + 1, &row, 0, self.k / 2);
+        show(self.k / 2, &acc);
+    }
+
+    fn order(self) {
+        let number = match limbs::compare(&self.acc, self.n, &self.rows, self.at) {
+            Ordering::Less => 0,
+            Ordering::Equal => 1,
+            Ordering::Greater => 2,
+        };
+        show(number, &self.acc);
+    }
+
+    fn used(self) {
+        show(
+            limbs::limbs_used(&self.rows, self.at, self.n) as u64,
+            &self.rows,
+        );
     }
 }
 
-// One function each, on the first n of twelve limbs and on a row of n limbs that begins at `at` in
-// fourteen.
-fn sum(acc: [u64; 12], n: usize, rows: [u64; 14], at: usize)
-    requires { (n ≤ 10) × (at ≤ 4) }
-{
-    let mut a = acc;
-    let carry = limbs::add(&mut a, n, &rows, at);
-    show(carry, &a);
-}
-
-fn difference(acc: [u64; 12], n: usize, rows: [u64; 14], at: usize)
-    requires { (n ≤ 10) × (at ≤ 4) }
-{
-    let mut a = acc;
-    let borrow = limbs::subtract(&mut a, n, &rows, at);
-    show(borrow, &a);
-}
-
-fn product(acc: [u64; 12], n: usize, k: u64)
-    requires { n ≤ 10 }
-{
-    let mut a = acc;
-    let carry = limbs::times(&mut a, n, k);
-    show(carry, &a);
-}
-
-fn multiple_added(acc: [u64; 12], n: usize, rows: [u64; 14], at: usize, k: u64)
-    requires { (n ≤ 10) × (at ≤ 4) }
-{
-    let mut a = acc;
-    let carry = limbs::add_multiple(&mut a, n, &rows, at, k);
-    show(carry, &a);
-}
-
-// The row is k times in the n + 1 limbs that it is taken from, and goes k / 2 times.
-fn multiple_taken(acc: [u64; 12], n: usize, rows: [u64; 14], at: usize, k: u64)
-    requires { (n ≤ 10) × (at ≤ 4) }
-{
-    let mut row = [0u64; 12];
-    limbs::add(&mut row, n, &rows, at);
-    let mut a = acc;
-    let carry = limbs::add_multiple(&mut a, n, &row, 0, k);
-    a[n] = carry;
-    limbs::subtract_multiple(&mut a, n + 1, &row, 0, k / 2);
-    show(k / 2, &a);
-}
-
-fn order(acc: [u64; 12], n: usize, rows: [u64; 14], at: usize)
-    requires { (n ≤ 10) × (at ≤ 4) }
-{
-    show(order_number(limbs::compare(&acc, n, &rows, at)), &acc);
-}
-
-fn used(rows: [u64; 14], at: usize, n: usize)
-    requires { (n ≤ 10) × (at ≤ 4) }
-{
-    show(wide(limbs::limbs_used(&rows, at, n)), &rows);
-}
-
-// Every function once, on limbs that are drawn from `state`.
-fn tried(state: u64, n: usize, at: usize)
-    requires { (n ≤ 10) × (at ≤ 4) }
-{
-    let k = limb(state);
-    let mut rows = [0u64; 14];
-    fill(&mut rows, draw(k));
-    let mut acc = [0u64; 12];
-    fill(&mut acc, state);
-    sum(acc, n, rows, at);
-    difference(acc, n, rows, at);
-    product(acc, n, k);
-    multiple_added(acc, n, rows, at, k);
-    multiple_taken(acc, n, rows, at, k);
-    order(acc, n, rows, at);
-    used(rows, at, n);
-}
-
+// Every function once on each of 110 cases.
 fn main() {
-    let mut i = 0;
-    while i < 110 {
-        tried(wide(i) + 1, i % 11, i / 11 % 5);
-        i += 1;
+    for i in 0..110 {
+        let case = Case::drawn(i as u64 + 1, i % 11, i / 11 % 5);
+        case.sum();
+        case.difference();
+        case.product();
+        case.multiple_added();
+        case.multiple_taken();
+        case.order();
+        case.used();
     }
 }

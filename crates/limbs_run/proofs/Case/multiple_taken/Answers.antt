@@ -1,14 +1,9 @@
--- `limbs_run::multiple_taken` meets its contract: the row is k times in the limbs that k / 2 times it is taken from, so that it is in them as often.
-use mathlib.Core.List.{List}
-use mathlib.Core.Path.{◌≡◌, ap, ◌∙◌}
-use Prim.Native.Nat.{ℕ, ◌+◌, ◌*◌, ◌≤◌, ◌<◌}
-use native.Mathlib.Nat.{mul-le-mul_left, le_trans, le-add_left}
-use native.Mathlib.Omega.{arith}
-use borrow.Author.Rules.{rules}
-use lib.ListN.{length, get_or, set, replicate, length-set, get_or-replicate}
+-- `limbs_run::Case::multiple_taken` meets its contract: the row is k times in the limbs that k / 2 times it is taken from, so that it is in them as often.
+use Rattle.std.proofs.Common.{◌≡◌, ℕ, ◌+◌, ◌*◌, ◌≤◌, ◌<◌, List, ◌∙◌, ap, mul-le-mul_left, le_trans, le-add_left, arith, rules, length, get_or, set, replicate, length-set}
+use Rattle.std.proofs.lemmas.List.{get_or-replicate}
 use Rattle.limbs.specs.Limbs.{number_at, holding, carry_out}
 use Rattle.limbs.specs.HoldingLaws.{number_at_carried, number_at_zero_behind, get_or_holding}
-use Rattle.limbs_run.proofs.multiple_taken.Goals as goal
+use Rattle.limbs_run.proofs.Case.multiple_taken.Goals as goal
 
 -- Behind the row, which stands in twelve limbs of 0, is a limb of 0.
 none_behind : (n v : ℕ) {row : List ℕ} → n < 12 → row ≡ holding n v (replicate 12 0) → get_or row n 0 ≡ 0
@@ -27,4 +22,4 @@ subtract_multiple-requires c =
     let row = c.add.ensures.acc_after in
     let sum = c.add_multiple-carry.ensures in
     let none = none_behind _ _ (omega arith) row in
-    (rw length-set (search rules), search rules, within _ _ _ _ _ _ (search rules) none (omega arith) sum.acc_after sum.value)
+    (rw length-set (search rules), omega arith, within _ _ _ _ _ _ (search rules) none (omega arith) sum.acc_after sum.value)
