@@ -1,8 +1,7 @@
 -- Laws of rows: what writing one more does, and that rows written from the front belong.
-use Rattle.std.specs.Prelude.{◌≡◌, List, ◌++◌, ℕ, zero, suc, ◌+◌, ◌-◌, ◌*◌, ◌≤◌, ◌<◌, length, get_or, set, take, drop}
+use Rattle.std.specs.Prelude.{◌≡◌, List, ◌++◌, ℕ, zero, suc, ◌+◌, ◌*◌, ◌≤◌, ◌<◌, length, take, drop}
 use Rattle.std.proofs.Math.Path.{refl}
-use Rattle.std.proofs.Common.{sym, ap, ◌∙◌, append_assoc, ⊎_elim, eq-or-lt_of_le, mul-suc, le_refl, le_of_eq, le_antisymm, add-one, arith, length-append, take_all, take_at, drop_at, drop-drop}
-use Rattle.std.proofs.Math.Seq.{paste, paste-suc}
+use Rattle.std.proofs.Common.{sym, ap, ◌∙◌, append_assoc, ⊎_elim, eq-or-lt_of_le, mul-suc, le_refl, le_of_eq, add-one, arith, length-append, take_all, take_at, drop_at, drop-drop}
 use Rattle.limbs.specs.Limbs.{value, limbs_of, number_at}
 use Rattle.limbs.specs.ValueLaws.{length-limbs_of, value-limbs_of_below}
 use Rattle.replies.specs.declared.Profile.{Profile}
@@ -12,11 +11,6 @@ use Rattle.tables.specs.Tables.{table_of, Belongs, rows_below}
 use Rattle.tables.specs.Counting.{one}
 use Rattle.tables.specs.Rows.{with_row, front_rows}
 use Rattle.tables.specs.CountingLaws.{one_word, count_in_ten}
-
--- One limb more of a row.
-pub stored : (before : List ℕ) (at : ℕ) (number : List ℕ) (k : ℕ) {out : List ℕ} → out ≡ paste before at number k
-    → at + k < length before → k < length number → set out (at + k) (get_or number k 0) ≡ paste before at number (k + 1)
-stored before at number k o inside some = rw (o, add-one) (paste-suc before at number k 0 inside some)
 
 -- Ten limbs a row.
 pub length_rows : (p : Profile) (n : ℕ) → length (rows_below p n) ≡ 10 * n
@@ -75,38 +69,17 @@ front_belongs p range i lent l e = rw e (rows_belong p range i (drop (10 * (i + 
 pub built_belongs : (p : Profile) → InRange p → (rest : List ℕ) → Belongs p p.m (table_of p ++ rest)
 built_belongs p range rest = rows_belong p range p.m rest (le_refl _)
 
--- Rows written again from the front are the same.
-pub front_again : (p : Profile) (k n : ℕ) (lent : List ℕ) → k ≤ n → front_rows p n (front_rows p k lent) ≡ front_rows p n lent
-unfolding front_rows
-front_again p k n lent l =
-    let behind : 10 * n ≡ 10 * k + (10 * n - 10 * k) = omega arith in
-    let rows = rows_below p k in
-    ap (λ (rest : List ℕ). rows_below p n ++ rest)
-    (rw (behind, ← drop-drop (10 * n - 10 * k) (10 * k) (rows ++ drop (10 * k) lent))
-    (rw (drop_at rows (drop (10 * k) lent) (10 * k) (length_rows p k), drop-drop)))
-
 -- What storing N(i) as row i leaves, behind the rows before it.
 pub front_next : (p : Profile) (i : ℕ) (lent : List ℕ) {j : ℕ} {number out after : List ℕ} → out ≡ front_rows p i lent → j ≡ i → number ≡ limbs_of 10 (count_for p i)
     → after ≡ with_row j number out → after ≡ front_rows p (j + 1) lent
 front_next p i lent o e h a = a ∙ rw (o, h, e) (front_more p i lent)
 
--- Row 0 is 1; it may be written again.
-module _ (p : Profile) (range : InRange p) (lent : List ℕ) {first : List ℕ} (written : first ≡ with_row 0 one lent) where
-  row_0_written : first ≡ front_rows p 1 lent
-  unfolding limbs_of
-  row_0_written =
-      let held : one ≡ limbs_of 10 (count_for p 0) = rw (one_word range) in
-      front_next p 0 lent (front_none p lent) refl held written
-
-  pub rows_begun : {i : ℕ} → i ≡ 0 → first ≡ front_rows p (i + 1) first
-  rows_begun z =
-      row_0_written ∙ sym (front_again p 1 1 lent (le_refl 1)) ∙ rw (← row_0_written, z)
-
-  -- Where row m is reached the whole table is written.
-  pub rows_built : {i : ℕ} {after : List ℕ} → i ≤ p.m → p.m ≤ i → after ≡ front_rows p (i + 1) first
-      → after ≡ front_rows p (p.m + 1) lent
-  rows_built {i} most least e =
-      e ∙ rw (row_0_written, le_antisymm most least) (front_again p 1 (p.m + 1) lent (omega arith))
+-- Row 0 is 1.
+pub row_0_written : (p : Profile) → InRange p → (lent : List ℕ) {first : List ℕ} → first ≡ with_row 0 one lent → first ≡ front_rows p 1 lent
+unfolding limbs_of
+row_0_written p range lent written =
+    let held : one ≡ limbs_of 10 (count_for p 0) = rw (one_word range) in
+    front_next p 0 lent (front_none p lent) refl held written
 
 -- The whole table from the front of a lent list.
 pub table_front : (p : Profile) (lent : List ℕ) → front_rows p (p.m + 1) lent ≡ table_of p ++ drop (length (table_of p)) lent

@@ -1,6 +1,6 @@
 -- Laws of tables: one that is not refused belongs, and its rows may be read over the limbs in use alone.
 use Rattle.std.specs.Prelude.{◌≡◌, refl, Bool, true, false, not, List, ℕ, zero, suc, ◌+◌, ◌*◌, ◌^◌, ◌≤◌, ◌<◌, length}
-use Rattle.std.proofs.Common.{sym, ◌∙◌, true≢false, ⊎_elim, eq-or-lt_of_le, lt_of_le_of_lt, arith, ltb-false, lt-ltb, le-ltb, eqb-true, eq-eqb}
+use Rattle.std.proofs.Common.{◌∙◌, true≢false, ⊎_elim, eq-or-lt_of_le, lt_of_le_of_lt, arith, ltb-false, lt-ltb, le-ltb, eqb-true, eq-eqb}
 use Rattle.limbs.specs.Limbs.{base, number_at}
 use Rattle.limbs.specs.ValueLaws.{lowest_limbs}
 use Rattle.replies.specs.declared.Profile.{Profile}
@@ -10,14 +10,10 @@ use Rattle.code.proofs.Sizes.{counts_rise}
 use Rattle.profiles.specs.Profiles.{count_for}
 use Rattle.tables.specs.Tables.{table_length, row_right, Belongs, table_refusal}
 
--- A row is right or wrong.
+-- A row that is not wrong is right.
 pub not_wrong : (right : Bool) → not right ≡ false → right ≡ true
 not_wrong true e = refl
 not_wrong false e = absurd (true≢false e)
-
-pub not_right : (right : Bool) → not right ≡ true → right ≡ false
-not_right true e = absurd (true≢false (sym e))
-not_right false e = refl
 
 -- A table that is not refused belongs.
 pub table_belongs : (p : Profile) (table : List ℕ) → (table_refusal p table).number ≡ 0 → Belongs p p.m table

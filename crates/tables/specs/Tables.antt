@@ -1,9 +1,9 @@
 -- Tables of counts: which belong to a profile, numbers 5 and 6, and the outcomes of building one and of handing out the shipped one.
-use Rattle.std.specs.Prelude.{Bool, not, List, [], ◌++◌, ◌≡◌, ℕ, zero, suc, ◌+◌, ◌*◌, ◌≤◌, ltb, eqb, length}
+use Rattle.std.specs.Prelude.{Bool, cond, not, List, [], ◌++◌, ◌≡◌, ℕ, zero, suc, ◌+◌, ◌*◌, ◌≤◌, ltb, eqb, length}
 use Rattle.limbs.specs.Limbs.{limbs_of, number_at}
 use Rattle.replies.specs.declared.Reply.{Reply}
 use Rattle.replies.specs.declared.Profile.{Profile}
-use Rattle.replies.specs.Replies.{refused_if, refused_at_first, or_else, length_refusal, profile_refusal, room_refusal, Outcome, writing, profile_of}
+use Rattle.replies.specs.Replies.{done, refused, refused_if, refused_at_first, or_else, length_refusal, profile_refusal, room_refusal, Outcome, writing, profile_of}
 use Rattle.profiles.specs.Profiles.{count_for}
 
 -- A table holds rows N(0) to N(m), ten limbs a row.
@@ -23,6 +23,10 @@ pub record Belongs (p : Profile) (m : ℕ) (table : List ℕ) : Type 0 where
 unfoldable pub table_refusal : Profile → List ℕ → Reply
 table_refusal p table =
     or_else (refused_if (ltb (length table) (table_length p.m)) 5) (refused_at_first (λ i. not (row_right p table i)) (p.m + 1) 6)
+
+-- 6: row i of a table does not hold the number v.
+abbrev pub row_refusal : ℕ → ℕ → List ℕ → Reply
+row_refusal i v table = cond (eqb (number_at 10 table (10 * i)) v) done (refused 6 i)
 
 -- The rows N(0) to N(n - 1).
 unfoldable pub rows_below : Profile → ℕ → List ℕ

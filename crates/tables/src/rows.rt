@@ -4,7 +4,7 @@ ghost use Rattle.replies.specs.Ranges.{InRange};
 ghost use Rattle.tables.specs.Rows.{with_row, front_rows};
 ghost use Rattle.tables.specs.Tables.{table_length};
 
-use super::counting;
+use super::counting::Count;
 use replies::Profile;
 
 // Writes a number of ten limbs as row i.
@@ -12,11 +12,7 @@ pub fn store(out: &mut [u64], i: usize, number: &[u64])
     requires { (length number.now ≡ 10) × (table_length i ≤ length out.old) }
     ensures { out.new ≡ with_row i number.now out.old }
 {
-    let mut k = 0;
-    while k < 10 {
-        out[10 * i + k] = number[k];
-        k += 1;
-    }
+    out[10 * i..10 * i + 10].copy_from_slice(number);
 }
 
 // Counts rows 0 to m, each from the rows written before it.
@@ -25,12 +21,10 @@ pub fn build(p: Profile, out: &mut [u64])
     requires m_in_bounds { table_length p.m ≤ length out.old }
     ensures { out.new ≡ front_rows p (p.m + 1) out.old }
 {
-    let mut fresh = counting::ONE;
-    let mut stage = counting::first(p);
-    store(out, 0, &fresh);
-    while stage.i < p.m {
-        let mut next = fresh;
-        stage = counting::step(p, stage, &mut next, &mut fresh, out);
-        store(out, stage.i, &next);
+    let mut count = Count::first(p);
+    store(out, 0, &count.row);
+    for i in 1..p.m + 1 {
+        count.step(p, out);
+        store(out, i, &count.row);
     }
 }

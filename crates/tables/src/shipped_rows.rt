@@ -531,23 +531,18 @@ fn copy_row(out: &mut [u64], i: usize)
     requires { (i ≤ 128) × (table_length i ≤ length out.old) }
     ensures { out.new ≡ with_row i (limbs_of 10 (N 4 1 i)) out.old }
 {
-    let at = 4 * i;
-    let a = SHIPPED[at];
-    let b = SHIPPED[at + 1];
-    let c = SHIPPED[at + 2];
-    let d = SHIPPED[at + 3];
-    let row = [a, b, c, d, 0, 0, 0, 0, 0, 0];
+    let mut row = [0; 10];
+    row[..4].copy_from_slice(&SHIPPED[4 * i..4 * i + 4]);
     rows::store(out, i, &row);
 }
 
 // Copies rows 0 to m.
+#[tactic(auto, using(crate::specs::RowLaws::front_none))]
 pub fn copy(m: usize, out: &mut [u64])
     requires { (m ≤ 128) × (table_length m ≤ length out.old) }
     ensures { out.new ≡ front_rows (shipped_profile m) (m + 1) out.old }
 {
-    let mut i = 0;
-    while i < m + 1 {
+    for i in 0..m + 1 {
         copy_row(out, i);
-        i += 1;
     }
 }

@@ -2,15 +2,10 @@
 ghost use Rattle.std.specs.Prelude.{◌≡◌, ◌^◌, ◌≤◌};
 
 // Top to the power of k.
+#[tactic(auto, using(crate::specs::PowerLaws::power_fits))]
 pub fn power(top: u64, k: usize) -> u64
     requires { (top ≤ 31) × (k ≤ 8) }
     ensures { result ≡ top ^ k }
 {
-    let mut number = 1;
-    let mut i = 0;
-    while i < k {
-        number = number * top;
-        i += 1;
-    }
-    number
+    top.pow(k as u32)
 }

@@ -1,24 +1,34 @@
-use mathlib.Core.Path.{refl}
-use borrow.Author.Rules.{rules}
-use Rattle.tables.specs.RowLaws.{rows_begun, rows_built, front_next, front_belongs}
+use mathlib.Core.Path.{refl, ◌∙◌}
+use native.Mathlib.Omega.{arith}
+use Rattle.tables.specs.RowLaws.{row_0_written, front_next, front_belongs}
 use Rattle.tables.proofs.rows.build.Goals as goal
 
-pub loop-stage-init : goal.loop-stage-init
-loop-stage-init c =
-    let e = c.first-stage.ensures in
-    (e.counted, rows_begun c.args.p c.requires.in_range c.args.out.now c.store.ensures e.i_value, refl)
+pub loop-i-init : goal.loop-i-init
+loop-i-init c =
+    let e = c.first-count.ensures in
+    record {
+      at = omega (arith, e.i_value);
+      counted = e.counted;
+      written = row_0_written c.args.p c.requires.in_range c.args.out.now (rw e.held at c.store.ensures);
+    }
 
-pub step-stage-requires : goal.step-stage-requires
-step-stage-requires c =
-    let range = c.requires.in_range in
-    let right = front_belongs _ range _ _ c.loop-stage.invariant.0.inside c.loop-stage.invariant.1 in
-    record { range = range; more = c.loop-stage-test.true; counted = c.loop-stage.invariant.0; same = refl; right = right }
+pub step-requires : goal.step-requires
+step-requires c =
+    let now = c.loop-i.invariant in
+    record {
+      range = c.requires.in_range;
+      more = omega (arith, now.at, c.loop-i-test.true);
+      counted = now.counted;
+      same = refl;
+      right = front_belongs c.args.p c.requires.in_range _ c.args.out.now now.counted.inside (now.written ∙ rw now.at refl);
+    }
 
-pub loop-stage-preserved : goal.loop-stage-preserved
-loop-stage-preserved c =
-    let e = c.step-stage.ensures in
-    (e.counted, front_next _ _ _ c.loop-stage.invariant.1 e.row e.held c.store-in-loop-stage.ensures, search rules)
-
-pub returns : goal.returns
-returns c =
-    rows_built c.args.p c.requires.in_range c.args.out.now c.store.ensures c.loop-stage.invariant.0.inside c.loop-stage-test.false c.loop-stage.invariant.1
+pub loop-i-preserved : goal.loop-i-preserved
+loop-i-preserved c =
+    let now = c.loop-i.invariant in
+    let e = c.step.ensures in
+    record {
+      at = rw (e.row, now.at) refl;
+      counted = e.counted;
+      written = front_next c.args.p c.loop-i.i c.args.out.now now.written refl (rw now.at at e.held) c.store-in-loop-i.ensures;
+    }

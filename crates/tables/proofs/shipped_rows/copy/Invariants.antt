@@ -1,13 +1,8 @@
 -- `tables::shipped_rows::copy` meets its contract. The loop's invariant: the rows below i are written from the front.
 use mathlib.Core.Path.{◌≡◌}
-use Prim.Native.Nat.{◌+◌, ◌-◌, ◌≤◌}
-use lib.ListN.{length}
 use Rattle.tables.specs.Rows.{front_rows}
 use Rattle.tables.specs.Tables.{shipped_profile}
 use Rattle.tables.proofs.shipped_rows.copy.Given as goal
 
 abbrev pub invariant-loop-i : goal.invariant-loop-i
-invariant-loop-i l = (l.i ≤ l.m + 1) × (l.out ≡ front_rows (shipped_profile l.m) l.i l.initial.out) × (length l.out ≡ length l.initial.out)
-
-abbrev pub decreases-loop-i : goal.decreases-loop-i
-decreases-loop-i l = l.m + 1 - l.i
+invariant-loop-i l = l.out ≡ front_rows (shipped_profile l.m) l.i l.fn.out
