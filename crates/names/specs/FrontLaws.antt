@@ -48,3 +48,8 @@ front_put {lent} {text} {after} {next} put =
     let rest : drop next after ≡ drop next lent =
     rw (put.left, end) (drop_at text (drop next lent) next (omega arith)) in
     ((omega arith, front_length put), (put_front put, rest))
+
+-- So it does where the list is lent no longer.
+pub front_held : {lent text after held : List ℕ} {next : ℕ} → Put lent 0 text after next → held ≡ after
+    → IsPrefixLen next held × ((take next held ≡ text) × (drop next held ≡ drop next lent))
+front_held put e = rw e (front_put put)

@@ -1,9 +1,10 @@
 -- Laws of the character that a list begins with: how its bytes are read one after another.
 use Rattle.std.specs.Prelude.{◌≡◌, refl, Bool, true, false, cond, ◌&&◌, ◌||◌, List, [], ◌∷◌, ℕ, zero, suc, ◌+◌, ◌-◌, ◌*◌, ◌≤◌, ◌<◌, ltb, leb, length, get_or}
-use Rattle.std.proofs.Common.{sym, ◌∙◌, true≢false, add-one, arith, length-drop, drop_of_length-le, drop-cons, ltb-true, ltb-false, le-leb}
+use Rattle.std.proofs.Common.{sym, ◌∙◌, true≢false, add-one, add_comm, arith, length-take, length-drop, drop_of_length-le, drop-cons, ltb-true, ltb-false, le-leb}
 use Rattle.std.proofs.Math.Bool.{and-eq-true_iff}
 use Rattle.std.proofs.Math.Arith.{le-zero}
-use Rattle.std.proofs.Math.ListN.{drop}
+use Rattle.std.proofs.Math.ListN.{take, drop}
+use Rattle.std.proofs.lemmas.List.{get_or-take, get_or-drop}
 use Rattle.std.proofs.lemmas.Bool.{lt-leb}
 use Rattle.names.specs.declared.Lead.{Lead}
 use Rattle.names.specs.Names.{within, lead_of, go_on, code_point, is_standing, standing}
@@ -192,6 +193,27 @@ standing-length (b ∷ l) = go (go_on further l) (is_standing first.least (code_
     go true true e = omega (arith, goes-length further l e)
     go true false e = omega arith
     go false u e = omega arith
+
+-- So no bytes go on where there are fewer.
+pub goes_short : (n : ℕ) (l : List ℕ) → length l < n → go_on n l ≡ false
+goes_short n l few = go (go_on n l) refl
+  where
+    go : (t : Bool) → go_on n l ≡ t → t ≡ false
+    go true e = absurd (omega (arith, goes-length n l e))
+    go false e = refl
+
+-- The bytes from the second to a last one are at the places behind theirs.
+pub further_at : (text items : List ℕ) (size k : ℕ) → items ≡ take (size - 1) (drop 1 text) → k < length items
+    → get_or items k 0 ≡ get_or text (k + 1) 0
+further_at text items size k e inside =
+    let few = rw (e, length-take) at inside in
+    rw (e, get_or-take (size - 1) (drop 1 text) k 0 (omega arith), get_or-drop 1 text k 0, add_comm 1 k)
+
+-- No text begins with no character.
+pub none_empty : (l : List ℕ) → length l ≡ 0 → standing l ≡ 0
+unfolding standing
+none_empty [] none = refl
+none_empty (b ∷ l) none = absurd (omega arith)
 
 -- They end within the name.
 pub standing_inside : (name : List ℕ) (i n : ℕ) → i < length name → n ≡ standing (drop i name) → i + n ≤ length name

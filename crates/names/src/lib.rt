@@ -2,12 +2,14 @@
 // character, begins no line and turns no writing; within the quotes of JSON it ends no quote.
 #![tactic(auto)]
 
-ghost use Rattle.std.specs.Prelude.{◌≡◌, ◌<◌, length, take, drop};
+ghost use Rattle.std.specs.Prelude.{MatchOption, ◌≡◌, ◌<◌, length, take, drop};
 ghost use Rattle.io.specs.Counts.{IsPrefixLen};
 ghost use Rattle.io.specs.Digits.{hex_digit_ascii};
-ghost use Rattle.text.specs.Put.{Fits, Put};
-ghost use Rattle.names.specs.Names.{stands_as_it_is, is_code_point, lead_with, lead_of, standing, spelt, escaped_in};
+ghost use Rattle.text.specs.Writer.{HasRoom, Puts};
+ghost use Rattle.names.specs.Names.{stands_as_it_is, is_code_point, lead_of, standing, spelt, escaped_in};
 ghost use Rattle.names.specs.Quotes.{quoted_byte, quoted_in};
+
+use text::Writer;
 
 // How a character of UTF-8 begins: how many bytes it has, what the first gives of its code point, and
 // the least code point that takes as many bytes.
@@ -18,83 +20,69 @@ struct Lead {
     least: u32,
 }
 
-// A beginning of these three numbers.
-fn lead_with(size: usize, bits: u32, least: u32) -> Lead
-    ensures { result ≡ lead_with size bits least }
+// The character that begins with a byte; none where none does.
+#[tactic(auto, unfolding(crate::specs::Names::lead_of))]
+fn lead_of(byte: u8) -> Option<Lead>
+    ensures { MatchOption result ((lead_of byte).size ≡ 0) (λ first. (first ≡ lead_of byte) × (0 < first.size)) }
 {
-    Lead { size, bits, least }
-}
-
-// The character that begins with a byte; one of no bytes where none does.
-fn lead_of(byte: u8) -> Lead
-    ensures { result ≡ lead_of byte }
-{
-    let bits = byte as u32;
-    if byte < 0x80 {
-        return lead_with(1, bits, 0);
+    let bits = u32::from(byte);
+    match byte {
+        0..=0x7f => Some(Lead {
+            size: 1,
+            bits,
+            least: 0,
+        }),
+        0xc0..=0xdf => Some(Lead {
+            size: 2,
+            bits: bits - 0xc0,
+            least: 0x80,
+        }),
+        0xe0..=0xef => Some(Lead {
+            size: 3,
+            bits: bits - 0xe0,
+            least: 0x800,
+        }),
+        0xf0..=0xf7 => Some(Lead {
+            size: 4,
+            bits: bits - 0xf0,
+            least: 0x10000,
+        }),
+        _ => None,
     }
-    if byte < 0xc0 {
-        return lead_with(0, 0, 0);
-    }
-    if byte < 0xe0 {
-        return lead_with(2, bits - 0xc0, 0x80);
-    }
-    if byte < 0xf0 {
-        return lead_with(3, bits - 0xe0, 0x800);
-    }
-    if byte < 0xf8 {
-        return lead_with(4, bits - 0xf0, 0x10000);
-    }
-    lead_with(0, 0, 0)
 }
 
 // A number is the code point of a character: at most U+10FFFF, and no surrogate.
+#[tactic(auto, unfolding(crate::specs::Names::is_code_point))]
 fn is_code_point(point: u32) -> bool
     ensures { result ≡ is_code_point point }
 {
-    (point <= 0x10ffff) & !((0xd800 <= point) & (point <= 0xdfff))
+    matches!(point, 0..=0xd7ff | 0xe000..=0x10ffff)
 }
 
 // A character stands as it is: it is no control character, begins no line, turns no writing, and is no
 // backslash.
+#[tactic(auto, unfolding(crate::specs::Names::stands_as_it_is))]
 fn stands_as_it_is(point: u32) -> bool
     ensures { result ≡ stands_as_it_is point }
 {
-    let control = (point <= 0x1f) | ((0x7f <= point) & (point <= 0x9f));
-    let mark = (point == 0x61c) | ((0x200e <= point) & (point <= 0x200f));
-    let line_or_turn = (0x2028 <= point) & (point <= 0x202e);
-    let isolate = (0x2066 <= point) & (point <= 0x2069);
-    !(control | (mark | line_or_turn | isolate) | (point == 0x5c))
+    let is_control = matches!(point, 0..=0x1f | 0x7f..=0x9f);
+    let is_turn = matches!(point, 0x61c | 0x200e..=0x200f | 0x2028..=0x202e | 0x2066..=0x2069);
+    !(is_control || is_turn || point == 0x5c)
 }
 
-// How many bytes the character has that begins at `at`, where it stands as it is; else 0.
-fn standing(name: &[u8], at: usize) -> usize
-    requires { at < length name.now }
-    ensures { result ≡ standing (drop at name.now) }
+// How many bytes the character has that a text begins with, where it stands as it is.
+fn standing(text: &[u8]) -> Option<usize>
+    ensures { MatchOption result (standing text.now ≡ 0) (λ n. (n ≡ standing text.now) × (0 < n)) }
 {
-    let first = lead_of(name[at]);
-    if first.size == 0 {
-        return 0;
-    }
+    let first = lead_of(*text.first()?)?;
     let mut point = first.bits;
-    let mut further = first.size - 1;
-    let mut i = at + 1;
-    while 0 < further {
-        if name.len() <= i {
-            return 0;
+    for byte in text.get(1..first.size)? {
+        match *byte {
+            0x80..=0xbf => point = 64 * point + u32::from(*byte - 0x80),
+            _ => return None,
         }
-        let byte = name[i];
-        if (byte < 0x80) | (0xbf < byte) {
-            return 0;
-        }
-        point = 64 * point + (byte - 0x80) as u32;
-        further -= 1;
-        i += 1;
     }
-    if (first.least <= point) & is_code_point(point) & stands_as_it_is(point) {
-        return first.size;
-    }
-    0
+    (first.least <= point && is_code_point(point) && stands_as_it_is(point)).then_some(first.size)
 }
 
 // The digit of a number below 16, in lower case.
@@ -106,12 +94,11 @@ fn glyph(n: u8) -> u8
 }
 
 // Puts a byte spelt out: `\x` and two digits.
-fn put_spelt(out: &mut [u8], at: usize, byte: u8) -> usize
-    requires { Fits out.old at (spelt byte) }
-    ensures { Put out.old at (spelt byte) out.new result }
+fn put_spelt(byte: u8, out: &mut Writer)
+    requires { HasRoom out.old (spelt byte) }
+    ensures { Puts out.old (spelt byte) out.new }
 {
-    let four = [b'\\', b'x', glyph(byte / 16), glyph(byte % 16)];
-    text::put(out, at, &four)
+    out.put(&[b'\\', b'x', glyph(byte / 16), glyph(byte % 16)])
 }
 
 // Puts a name as it is printed to the front of `out`, which has four bytes for each of the name;
@@ -124,33 +111,32 @@ pub fn escape(name: &[u8], out: &mut [u8]) -> usize
     if out.len() / 4 < name.len() {
         return 0;
     }
-    let mut next = 0;
-    let mut i = 0;
-    while i < name.len() {
-        let n = standing(name, i);
-        if n == 0 {
-            next = put_spelt(out, next, name[i]);
-            i += 1;
-        } else {
-            let end = i + n;
-            next = text::put(out, next, &name[i..end]);
-            i = end;
+    let mut writer = Writer { out, at: 0 };
+    let mut rest = name;
+    while let [byte, behind @ ..] = rest {
+        match standing(rest) {
+            Some(n) => {
+                writer.put(&rest[..n]);
+                rest = &rest[n..];
+            }
+            None => {
+                put_spelt(*byte, &mut writer);
+                rest = behind;
+            }
         }
     }
-    next
+    writer.at
 }
 
 // Puts a byte as it stands within quotes.
-fn put_quoted(out: &mut [u8], at: usize, byte: u8) -> usize
-    requires { Fits out.old at (quoted_byte byte) }
-    ensures { Put out.old at (quoted_byte byte) out.new result }
+fn put_quoted(byte: u8, out: &mut Writer)
+    requires { HasRoom out.old (quoted_byte byte) }
+    ensures { Puts out.old (quoted_byte byte) out.new }
 {
-    if (byte == b'"') | (byte == b'\\') {
-        let two = [b'\\', byte];
-        return text::put(out, at, &two);
+    if byte == b'"' || byte == b'\\' {
+        out.put(b"\\");
     }
-    let one = [byte];
-    text::put(out, at, &one)
+    out.put(&[byte])
 }
 
 // Puts a printed name as it stands within the quotes of JSON to the front of `out`, which has two
@@ -163,11 +149,9 @@ pub fn quote(printed: &[u8], out: &mut [u8]) -> usize
     if out.len() / 2 < printed.len() {
         return 0;
     }
-    let mut next = 0;
-    let mut i = 0;
-    while i < printed.len() {
-        next = put_quoted(out, next, printed[i]);
-        i += 1;
+    let mut writer = Writer { out, at: 0 };
+    for byte in printed {
+        put_quoted(*byte, &mut writer);
     }
-    next
+    writer.at
 }

@@ -1,12 +1,11 @@
--- `names::quote` meets its contract. The loop's invariant: of the text within quotes, the bytes from i on are left.
-use Prim.Native.Nat.{◌-◌}
+-- `names::quote` meets its contract. The loop's invariant: of the text within quotes, the bytes that are not passed are left.
+use mathlib.Core.Path.{◌≡◌}
 use lib.ListN.{length, drop}
 use Rattle.names.specs.Quotes.{quoted, quoted_in}
 use Rattle.names.specs.FrontLaws.{Left}
 use Rattle.names.proofs.quote.Given as goal
 
-abbrev pub invariant-loop-i : goal.invariant-loop-i
-invariant-loop-i l = Left l.initial.out (quoted_in l.printed (length l.initial.out)) l.out l.next (quoted (drop l.i l.printed))
-
-abbrev pub decreases-loop-i : goal.decreases-loop-i
-decreases-loop-i l = length l.printed - l.i
+abbrev pub invariant-loop-byte : goal.invariant-loop-byte
+invariant-loop-byte l =
+    Left l.initial.writer.out.now (quoted_in l.printed (length l.initial.writer.out.now)) l.writer.out.now l.writer.at (quoted (drop l.byte-index l.printed))
+    × (l.writer.out.ghost_name ≡ l.initial.writer.out.ghost_name)
