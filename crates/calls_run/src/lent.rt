@@ -1,11 +1,15 @@
 // A call that writes into a part of what is there.
 use parts::first_mut;
-use replies::Written;
+use replies::Refusal;
 use script::{Case, show};
 
 // What a call answers that writes into as many of these cells or bytes as the case lends, and all that
 // was lent.
-pub fn cells<F: FnOnce(&mut [u8]) -> Written>(case: &mut Case, cells: &mut [u8], call: F)
+pub fn written<F: FnOnce(&mut [u8]) -> Result<usize, Refusal>>(
+    case: &mut Case,
+    cells: &mut [u8],
+    call: F,
+)
     requires { F.IsAlwaysCallable call }
 {
     let lent = first_mut(cells, case.count());

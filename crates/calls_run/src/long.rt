@@ -1,6 +1,6 @@
 // Long streams: drawn messages are written, one cell is changed, and the stream is read, turned and
 // joined with itself.
-use replies::{Profile, Written};
+use replies::{Profile, Refusal};
 use script::show::MARKED_CELL;
 use script::{Case, show};
 
@@ -8,8 +8,8 @@ use script::{Case, show};
 const STATES: u64 = 2147483648;
 
 // An answer, and a digest of all that was lent.
-fn written(w: Written, out: &[u8]) {
-    show::written(w);
+fn written(answer: Result<usize, Refusal>, out: &[u8]) {
+    show::written(answer);
     show::digest(out);
 }
 
@@ -45,10 +45,10 @@ pub fn stream(case: &mut Case) {
     let mut bytes = [0; 20480];
     draw(seed, &mut bytes);
     let mut cells = [MARKED_CELL; 35000];
-    let w = write_stream::write(p, table, parts::first(&bytes, n), bits, &mut cells);
-    written(w, &cells);
+    let answer = write_stream::write(p, table, parts::first(&bytes, n), bits, &mut cells);
+    written(answer, &cells);
     if let Some(cell) = cells.get_mut(place) {
         *cell = level;
     }
-    stream_given(p, table, parts::first(&cells, w.count));
+    stream_given(p, table, parts::first(&cells, answer.unwrap_or(0)));
 }

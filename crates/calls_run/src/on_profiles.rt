@@ -2,12 +2,11 @@
 use script::{Case, show};
 
 pub fn published(case: &mut Case) {
-    let p = catalogue::published_profile(case.count());
-    show::reply(p.reply);
-    show::count(p.q);
-    show::count(p.x);
-    show::count(p.m);
-    show::count(p.s);
+    let answer = catalogue::published_profile(case.count());
+    show::reply(answer);
+    for n in answer.map_or([0; 4], |row| [row.q, row.x, row.m, row.s]) {
+        show::count(n);
+    }
     show::end();
 }
 
@@ -15,9 +14,10 @@ pub fn rate(case: &mut Case) {
     let p = case.profile();
     let mut limbs = [0; 1300];
     let table = case.table(&mut limbs);
-    let r = catalogue::rate_of_words(p, table, case.count());
-    show::reply(r.reply);
-    show::count(r.bits);
-    show::count(r.cells);
+    let answer = catalogue::rate_of_words(p, table, case.count());
+    show::reply(answer);
+    for n in answer.map_or([0; 2], |rate| [rate.bits, rate.cells]) {
+        show::count(n);
+    }
     show::end();
 }

@@ -10,7 +10,7 @@ pub fn write(case: &mut Case) {
     let mut bytes = [0; 1200];
     let messages = case.runs(&mut bytes);
     let bits = case.count();
-    lent::cells(case, &mut [MARKED_CELL; 1200], |out| {
+    lent::written(case, &mut [MARKED_CELL; 1200], |out| {
         write_stream::write(p, table, messages, bits, out)
     });
 }
@@ -21,18 +21,18 @@ pub fn read(case: &mut Case) {
     let table = case.table(&mut limbs);
     let mut cells = [0; 1200];
     let stream = case.runs(&mut cells);
-    lent::cells(case, &mut [MARKED_CELL; 1200], |out| {
+    lent::written(case, &mut [MARKED_CELL; 1200], |out| {
         read_stream::read(p, table, stream, out)
     });
 }
 
 pub fn join(case: &mut Case) {
     let p = case.profile();
-    let mut cells = [0; 1200];
-    let first = case.runs(&mut cells);
-    let mut cells = [0; 1200];
-    let second = case.runs(&mut cells);
-    lent::cells(case, &mut [MARKED_CELL; 1200], |out| {
+    let mut first_cells = [0; 1200];
+    let first = case.runs(&mut first_cells);
+    let mut second_cells = [0; 1200];
+    let second = case.runs(&mut second_cells);
+    lent::written(case, &mut [MARKED_CELL; 1200], |out| {
         join_streams::join(p, first, second, out)
     });
 }
@@ -41,7 +41,7 @@ pub fn turn(case: &mut Case) {
     let p = case.profile();
     let mut cells = [0; 1200];
     let stream = case.runs(&mut cells);
-    lent::cells(case, &mut [MARKED_CELL; 1200], |out| {
+    lent::written(case, &mut [MARKED_CELL; 1200], |out| {
         join_streams::turn(p, stream, out)
     });
 }

@@ -1,19 +1,19 @@
 // The calls that write a table.
 use parts::{first, first_mut};
-use replies::Written;
+use replies::Refusal;
 use script::show::MARKED_LIMB;
 use script::{Case, show};
 
 // What a call answers that writes into as many limbs as the case lends, a digest of all limbs, and the
 // last row written.
-fn written<F: FnOnce(&mut [u64]) -> Written>(case: &mut Case, call: F)
+fn written<F: FnOnce(&mut [u64]) -> Result<usize, Refusal>>(case: &mut Case, call: F)
     requires { F.IsAlwaysCallable call }
 {
     let mut limbs = [MARKED_LIMB; 1400];
-    let w = call(first_mut(&mut limbs, case.count()));
-    show::written(w);
+    let answer = call(first_mut(&mut limbs, case.count()));
+    show::written(answer);
     show::digest(&limbs);
-    if let Some(row) = first(&limbs, w.count).last_chunk::<10>() {
+    if let Some(row) = first(&limbs, answer.unwrap_or(0)).last_chunk::<10>() {
         show::numbers(row);
     }
     show::end();

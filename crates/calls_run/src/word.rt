@@ -9,9 +9,9 @@ pub fn index(case: &mut Case) {
     let table = case.table(&mut limbs);
     let mut cells = [0; 200];
     let word = case.runs(&mut cells);
-    let r = index_of_word::index(p, table, word);
-    show::reply(r.reply);
-    show::numbers(&r.index.0);
+    let answer = index_of_word::index(p, table, word);
+    show::reply(answer);
+    show::numbers(&answer.map_or([0; 10], |index| index.0));
     show::end();
 }
 
@@ -20,7 +20,7 @@ pub fn word(case: &mut Case) {
     let mut limbs = [0; 1300];
     let table = case.table(&mut limbs);
     let index = case.index();
-    lent::cells(case, &mut [MARKED_CELL; 200], |out| {
+    lent::written(case, &mut [MARKED_CELL; 200], |out| {
         word_of_index::word(p, table, index, out)
     });
 }

@@ -15,15 +15,16 @@ fn case(out: &mut [u8]) {
     let mut case = script::next_case(&mut text);
     let room = case.count();
     let shown = case.count();
-    let mut line = [0; 40];
-    let line = case.runs(&mut line);
+    let mut bytes = [0; 40];
+    let line = case.runs(&mut bytes);
     first_mut(out, shown).fill(show::MARKED_CELL);
-    let w = code_as_text::list(line, first_mut(out, room));
-    show::written(w);
+    let answer = code_as_text::list(line, first_mut(out, room));
+    show::written(answer);
     show::digest(first(out, shown));
     show::end();
-    if w.count < SHORT {
-        io::write_all(1, first(out, w.count));
+    let count = answer.unwrap_or(0);
+    if count < SHORT {
+        io::write_all(1, first(out, count));
     }
 }
 

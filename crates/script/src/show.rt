@@ -1,5 +1,5 @@
 // Showing answers: numbers in decimal with a blank before each, and a line's end.
-use replies::{Reply, Written};
+use replies::{Refusal, Reply};
 
 // What a limb and a cell are before a call, so that it is seen where one was written.
 pub const MARKED_LIMB: u64 = 1000003;
@@ -34,24 +34,24 @@ fn mixed(sum: u64, bits: u64) -> u64 {
 
 // One number for all limbs or cells, in their order.
 pub fn digest<T: Copy + Into<u64>>(items: &[T]) {
-    number(
-        items.iter().fold(0, |sum, item| {
-            let n = (*item).into();
-            mixed(mixed(sum, n), n >> 32)
-        }),
-    );
+    let sum = items.iter().fold(0, |sum, item| {
+        let n = (*item).into();
+        mixed(mixed(sum, n), n >> 32)
+    });
+    number(sum);
 }
 
-// The number and the place of a reply.
-pub fn reply(r: Reply) {
-    number(u64::from(r.number));
-    count(r.place);
+// What a call answers: the number and the place of a refusal, or 0 and 0.
+pub fn reply<T: Drop>(answer: Result<T, Refusal>) {
+    let reply = Reply::from(answer);
+    number(u64::from(reply.number));
+    count(reply.place);
 }
 
 // What a call that writes answers: the reply, and how much it wrote.
-pub fn written(w: Written) {
-    reply(w.reply);
-    count(w.count);
+pub fn written(answer: Result<usize, Refusal>) {
+    reply(answer);
+    count(answer.unwrap_or(0));
 }
 
 // The end of a line.
