@@ -84,7 +84,7 @@ def take_items(spec, lines, given=""):
     last = None
     for group in chunks(lines):
         first, text = group[0].strip(), "\n".join(group)
-        if re.match(r"(pub )?mod \w+$|infix[lr]? \d", first):
+        if re.match(r"(pub )?mod \w+$|infix[lr]? \d|(pub )?ruleset \w+ = ", first):
             continue
         if first.startswith("use "):
             spec.brought |= brought_by(" ".join(text.split())) or refuse(spec.path, first)
