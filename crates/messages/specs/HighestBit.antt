@@ -1,10 +1,8 @@
 -- The largest s with 2^s at most n: there is one, and it is the place of the highest bit of the highest limb in use.
 use Rattle.std.specs.Prelude.{◌≡◌, List, [], ◌∷◌, ℕ, zero, suc, ◌+◌, ◌-◌, ◌*◌, ◌^◌, ◌≤◌, ◌<◌, get_or, take, drop}
-use Rattle.std.proofs.Common.{sym, le_antisymm, le_trans, lt_of_not-le, zero-add, add-suc, add_comm, mul-suc, mul_comm, mul-le-mul_left, sub-one, arith, pow_mono, length-take, get_or-take}
+use Rattle.std.proofs.Common.{sym, le_antisymm, le_trans, lt_of_not-le, zero-add, add-suc, add_comm, mul_comm, mul-le-mul_left, sub-one, arith, pow_mono, length-take, get_or-take}
 use Rattle.std.proofs.Math.Nat.{suc_inj}
 use Rattle.std.proofs.Math.Arith.{digits_lt}
-use Rattle.std.specs.Int.Count.{count_leading_zeros}
-use Rattle.std.proofs.lemmas.Nat.{leading_top}
 use Rattle.limbs.specs.Limbs.{base, number_at, used, used_with, AllLimbs}
 use Rattle.limbs.specs.UsedLaws.{used-length, number_at_used, number_at_below_used}
 use Rattle.limbs.specs.ValueLaws.{number_at_more, number_at_below, power_above}
@@ -43,25 +41,21 @@ largest_by_limb n l b all top =
       most = rw (← add-suc, power_above 64 n (suc b), split, mul_comm (base ^ n) (2 ^ suc b), mul_comm (base ^ n), add_comm) most;
     }
 
--- The k limbs in use of a number of n limbs that is not 0, and its highest bit, by the zeros that lead in the highest limb in use.
+-- The k limbs in use of a number of n limbs that is not 0, and its highest bit, by that of the highest limb in use.
 pub record HighestBit (n : ℕ) (l : List ℕ) (k : ℕ) : Type 0 where
   pub some : 0 < k
   pub inside : k ≤ n
-  pub zeros : count_leading_zeros 64 (get_or l (k - 1) 0) < 64
-  pub largest : Largest (number_at n l 0) (64 * k - 1 - count_leading_zeros 64 (get_or l (k - 1) 0))
+  pub top : 0 < get_or l (k - 1) 0
+  pub largest : (b : ℕ) → Largest (get_or l (k - 1) 0) b → Largest (number_at n l 0) (64 * (k - 1) + b)
 
 pub highest_bit : (n : ℕ) (l : List ℕ) → AllLimbs l → 0 < number_at n l 0 → (k : ℕ) → k ≡ used (take n (drop 0 l)) → HighestBit n l k
 highest_bit n l all some zero e = let below = rw (← e) at (number_at_below_used n l 0 all) in absurd (omega arith)
 highest_bit n l all some (suc k) e =
     let inside : suc k ≤ n = omega (arith, used-length (take n (drop 0 l)), length-take n (drop 0 l)) in
-    let top : 0 < get_or l k 0 = rw get_or-take at (highest_in_use (take n (drop 0 l)) k (sym e)) in
-    let bit = leading_top 64 (get_or l k 0) top (all k) in
-    let whole = bit.1 in
-    let place : 64 * suc k - 1 - count_leading_zeros 64 (get_or l k 0) ≡ 64 * k + bit.0 = rw mul-suc (omega arith) in
     let same : number_at (suc k) l 0 ≡ number_at n l 0 = rw (← e) at (number_at_used n l 0) in
     record {
       some = omega arith;
       inside = inside;
-      zeros = rw (sub-one (suc k)) (omega arith);
-      largest = rw (sub-one (suc k), place, ← same) (largest_by_limb k l bit.0 all (record { fits = bit.2; most = bit.3 }));
+      top = rw (sub-one (suc k)) (rw get_or-take at (highest_in_use (take n (drop 0 l)) k (sym e)));
+      largest = λ b top. rw (sub-one (suc k), ← same) (largest_by_limb k l b all (rw (sub-one (suc k)) at top));
     }

@@ -1,37 +1,19 @@
--- `messages::highest_bit` meets its contract: the zeros that lead in the highest limb in use give the place of the highest bit.
+-- `messages::highest_bit` meets its contract: at least one limb is in use, and at most ten.
+use borrow.Author.Rules.{rules}
 use native.Mathlib.Omega.{arith}
 use Rattle.messages.specs.HighestBit.{highest_bit}
 use Rattle.messages.proofs.highest_bit.Goals as goal
 
+pub overflow_sub-top : goal.overflow_sub-top
+overflow_sub-top c = (highest_bit 10 _ (search rules) c.requires.1 _ c.limbs_used-top.ensures).some
+
 pub overflow_mul-result : goal.overflow_mul-result
-overflow_mul-result c =
-    let b = highest_bit 10 _ (λ k. (c.type_inv.number k).fits) c.requires.1 _ c.limbs_used-used.ensures in
-    omega arith
+overflow_mul-result c = let few = (highest_bit 10 _ (search rules) c.requires.1 _ c.limbs_used-top.ensures).inside in omega arith
 
-pub overflow_sub-result : goal.overflow_sub-result
-overflow_sub-result c =
-    let b = highest_bit 10 _ (λ k. (c.type_inv.number k).fits) c.requires.1 _ c.limbs_used-used.ensures in
-    omega arith
+pub offset_bounds-number-top : goal.offset_bounds-number-top
+offset_bounds-number-top c = let few = (highest_bit 10 _ (search rules) c.requires.1 _ c.limbs_used-top.ensures).inside in omega arith
 
-pub overflow_sub-result-2 : goal.overflow_sub-result-2
-overflow_sub-result-2 c =
-    let b = highest_bit 10 _ (λ k. (c.type_inv.number k).fits) c.requires.1 _ c.limbs_used-used.ensures in
-    omega arith
-
-pub offset_bounds-number-used : goal.offset_bounds-number-used
-offset_bounds-number-used c =
-    let b = highest_bit 10 _ (λ k. (c.type_inv.number k).fits) c.requires.1 _ c.limbs_used-used.ensures in
-    omega arith
-
-pub bounds-number-used : goal.bounds-number-used
-bounds-number-used c =
-    let b = highest_bit 10 _ (λ k. (c.type_inv.number k).fits) c.requires.1 _ c.limbs_used-used.ensures in
-    omega arith
-
-pub overflow_sub-result-3 : goal.overflow_sub-result-3
-overflow_sub-result-3 c =
-    let b = highest_bit 10 _ (λ k. (c.type_inv.number k).fits) c.requires.1 _ c.limbs_used-used.ensures in
-    omega arith
-
-pub returns : goal.returns
-returns c = (highest_bit 10 _ (λ k. (c.type_inv.number k).fits) c.requires.1 _ c.limbs_used-used.ensures).largest
+pub bounds-number-top : goal.bounds-number-top
+bounds-number-top c =
+    let bit = highest_bit 10 _ (search rules) c.requires.1 _ c.limbs_used-top.ensures in
+    omega (arith, bit.some, bit.inside)
