@@ -2,9 +2,9 @@
 ghost use Rattle.std.specs.Io.{ReadsAtMost};
 
 use file_facts::Facts;
-use std::fs::{File, OpenFile, OpenOptions};
+use std::fs::{File, OpenOptions};
 use std::io;
-use std::io::{ErrorKind, Read, Write};
+use std::io::{ErrorKind, Read};
 use std::rt::Files;
 
 // So often an interrupted call is tried again.
@@ -39,11 +39,6 @@ pub fn look(rt: &impl Files, path: &[u8]) -> io::Result<Facts> {
     file_facts::of_name(rt, path)
 }
 
-// Brings a file to the disk.
-pub fn sync(file: &impl OpenFile) -> io::Result<()> {
-    file.sync_all()
-}
-
 // Gives a file or a folder another name.
 pub fn rename(rt: &impl Files, from: &[u8], to: &[u8]) -> io::Result<()> {
     rt.rename(file_facts::path(from)?, file_facts::path(to)?)
@@ -57,11 +52,6 @@ pub fn unlink(rt: &impl Files, path: &[u8]) -> io::Result<()> {
 // Removes a folder with nothing in it.
 pub fn rmdir(rt: &impl Files, path: &[u8]) -> io::Result<()> {
     rt.remove_dir(file_facts::path(path)?)
-}
-
-// Writes all of some bytes.
-pub fn put(to: &mut impl Write, bytes: &[u8]) -> io::Result<()> {
-    to.write_all(bytes)
 }
 
 // Reads to the front of `buf` until it is full or the input ends. How many bytes that are.

@@ -2,14 +2,14 @@
 // name - is standard input or standard output. What cannot be done is said in one line on standard error.
 #![tactic(auto)]
 
-ghost use Rattle.std.specs.Prelude.{◌≡◌};
-ghost use Rattle.io.specs.Counts.{IsPrefixLen};
+ghost use Rattle.std.specs.Prelude.{◌≡◌, ◌≤◌, length, IfOk};
 
 use file_facts::Facts;
 use std::io;
 use std::io::{Input, Print, Read};
 use std::rt::Files;
 
+mod buffers;
 mod calls;
 mod paths;
 mod said;
@@ -23,86 +23,71 @@ pub const STDOUT_FILENO: i32 = 1;
 
 pub const STDERR_FILENO: i32 = 2;
 
-// What came of reading a file: whether it was read, how many of the lent bytes it fills, and which file it is.
+// What was to be done with a file is not done, and what can be said of that was said on standard error.
+#[derive(Clone, Copy, PartialEq, Eq, Debug)]
+pub struct Trouble;
+
+// What was read of a file, in the lent items that it fills, and which file it is.
 #[derive(Clone, Copy)]
-pub struct Loaded {
-    pub done: bool,
-    pub count: usize,
+pub struct Loaded<'a, T> {
+    pub items: &'a [T],
     pub facts: Facts,
 }
 
 // The files that a subcommand has read.
-#[derive(Clone, Copy)]
+#[derive(Clone, Copy, Default)]
 pub struct Inputs {
-    pub first: Facts,
-    pub second: Facts,
-    pub table: Facts,
+    pub first: Option<Facts>,
+    pub second: Option<Facts>,
+    pub table: Option<Facts>,
 }
 
 // The name of standard input and standard output.
 pub fn is_standard(name: &[u8]) -> bool {
-    text::same(name, b"-")
+    name == b"-".as_slice()
 }
 
 // Reads what is left of an open file, of which this is known, to the front of `buf`. One that is longer fills
 // `buf`.
-fn load_open(input: &mut impl Read, known: io::Result<Facts>, name: &[u8], buf: &mut [u8]) -> Loaded
-    ensures { IsPrefixLen result.count buf.new }
+fn load_open<'a>(
+    input: &mut impl Read,
+    known: io::Result<Facts>,
+    name: &[u8],
+    buf: &'a mut [u8],
+) -> Result<Loaded<'a, u8>, Trouble>
+    ensures { IfOk result (λ loaded. length loaded.items.now ≤ length buf.old) }
 {
-    let facts = match known {
-        Ok(facts) => facts,
-        Err(error) => return not_loaded(name, file_facts::unknown(), error),
-    };
-    match calls::fill(input, buf) {
-        Ok(count) => Loaded {
-            done: true,
-            count,
-            facts,
-        },
-        Err(error) => not_loaded(name, facts, error),
-    }
-}
-
-// Says that a file cannot be read, and why.
-fn not_loaded(name: &[u8], facts: Facts, error: io::Error) -> Loaded
-    ensures { result.count ≡ 0 }
-{
-    said::cannot_read(name, error);
-    Loaded {
-        done: false,
-        count: 0,
+    let facts = known.map_err(|error| said::cannot_read(name, error))?;
+    let count = calls::fill(input, buf).map_err(|error| said::cannot_read(name, error))?;
+    Ok(Loaded {
+        items: &buf[..count],
         facts,
-    }
+    })
 }
 
 // Reads a file to the front of `buf`. One that is longer fills `buf`.
-pub fn load(rt: &(impl Files + Input), name: &[u8], buf: &mut [u8]) -> Loaded
-    ensures { IsPrefixLen result.count buf.new }
+pub fn load<'a>(
+    rt: &(impl Files + Input),
+    name: &[u8],
+    buf: &'a mut [u8],
+) -> Result<Loaded<'a, u8>, Trouble>
+    ensures { IfOk result (λ loaded. length loaded.items.now ≤ length buf.old) }
 {
     if is_standard(name) {
         let known = file_facts::of_descriptor(rt, STDIN_FILENO);
         return load_open(&mut rt.reader(), known, name, buf);
     }
-    match calls::open(rt, name) {
-        Ok(mut file) => {
-            let known = file_facts::of_file(&file);
-            load_open(&mut file, known, name, buf)
-        }
-        Err(error) => not_loaded(name, file_facts::unknown(), error),
-    }
+    let mut file = calls::open(rt, name).map_err(|error| said::cannot_read(name, error))?;
+    let known = file_facts::of_file(&file);
+    load_open(&mut file, known, name, buf)
 }
 
 // Writes all of some bytes to standard output, and says where that cannot be done, or else to standard error, of
 // which nothing can be said.
-pub fn tell(rt: &impl Print, fd: i32, bytes: &[u8]) -> bool {
+pub fn tell(rt: &impl Print, fd: i32, bytes: &[u8]) -> Result<(), Trouble> {
     if fd != STDOUT_FILENO {
         return said::put(bytes);
     }
-    match rt.write_all(bytes) {
-        Ok(()) => true,
-        Err(error) => {
-            said::cannot_write(b"-", error);
-            false
-        }
-    }
+    rt.write_all(bytes)
+        .map_err(|error| said::cannot_write(b"-", error))
 }

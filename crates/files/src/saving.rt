@@ -2,11 +2,10 @@
 // brought to the disk; then the folder takes the name `.remi-claim`, which one process at a time can hold,
 // and while it does so the name of the output is looked at and the file takes it.
 ghost use Rattle.std.specs.Prelude.{◌≡◌};
-ghost use Rattle.std.specs.Io.{ReadsAtMost};
-ghost use Rattle.files.specs.Saving.{is_input, hindrance};
+ghost use Rattle.files.specs.Saving.{is_input, hindrance, number_of};
 
-use crate::paths::ROOM;
-use crate::{Inputs, STDOUT_FILENO, calls, paths, said};
+use crate::paths::{Name, Path};
+use crate::{Inputs, STDOUT_FILENO, Trouble, calls, paths, said};
 use file_facts::Facts;
 use std::fs::{OpenFile, Permissions};
 use std::io::{ErrorKind, Print, Write};
@@ -16,29 +15,26 @@ use std::random::RandomSource;
 use std::rt::{Clock, Files};
 use std::{io, thread};
 
-// Nothing stands against writing a file.
-const FREE: u8 = 0;
-
-// It is one of those that are read.
-const READ_TOO: u8 = 1;
-
-// It is there and is no regular file.
-const NOT_REGULAR: u8 = 2;
-
-// It is there, and is not to be written over.
-const TAKEN: u8 = 3;
+// What stands against writing a file: it is one of those that are read; it is there and is no regular file; it is
+// there, and is not to be written over.
+#[derive(Clone, Copy, PartialEq, Eq, Debug)]
+pub enum Hindrance {
+    ReadToo,
+    NotRegular,
+    Taken,
+}
 
 // The name of the folder that one process at a time can hold.
-const CLAIM: [u8; 11] = *b".remi-claim";
+const CLAIM: &[u8] = b".remi-claim";
 
 // How often a process asks for it at the most.
-const ASKED: usize = 10000000;
+const ASKED: usize = 10_000_000;
 
 // How many names of its own a process tries.
 const OWN_NAMES: usize = 1000;
 
 // A file is one of those that are read.
-fn is_input(file: Facts, inputs: Inputs) -> bool
+fn is_input(file: Option<Facts>, inputs: Inputs) -> bool
     ensures { result ≡ is_input file inputs }
 {
     file_facts::same_file(file, inputs.first)
@@ -47,34 +43,30 @@ fn is_input(file: Facts, inputs: Inputs) -> bool
 }
 
 // What stands against writing a file.
-fn hindrance(file: Facts, inputs: Inputs, over: bool) -> u8
-    ensures { result ≡ hindrance file inputs over }
+fn hindrance_of(file: Option<Facts>, inputs: Inputs, over: bool) -> Option<Hindrance>
+    ensures { number_of result ≡ hindrance file inputs over }
 {
-    if !file.found {
-        return FREE;
+    if file.is_none() {
+        return None;
     }
     if is_input(file, inputs) {
-        return READ_TOO;
+        return Some(Hindrance::ReadToo);
     }
     if !file_facts::is_regular(file) {
-        return NOT_REGULAR;
+        return Some(Hindrance::NotRegular);
     }
     if over {
-        return FREE;
+        return None;
     }
-    TAKEN
+    Some(Hindrance::Taken)
 }
 
 // Nothing stands against writing a file; else that is said.
-fn is_free(name: &[u8], file: Facts, inputs: Inputs, over: bool) -> bool {
-    let found = hindrance(file, inputs, over);
-    match found {
-        FREE => {}
-        READ_TOO => said::left(name, b" is read here too and is left as it is\n"),
-        NOT_REGULAR => said::left(name, b" is no regular file and is left as it is\n"),
-        _ => said::left(name, b" exists and is left as it is; -f writes over it\n"),
+fn check_free(name: &[u8], file: Option<Facts>, inputs: Inputs, over: bool) -> Result<(), Trouble> {
+    match hindrance_of(file, inputs, over) {
+        None => Ok(()),
+        Some(hindrance) => Err(said::left(name, hindrance)),
     }
-    found == FREE
 }
 
 // A look at a name found that there is no file.
@@ -83,39 +75,27 @@ fn is_missing(error: io::Error) -> bool {
 }
 
 // What has a name, if only that nothing has it; where that cannot be known, it is said.
-fn known(rt: &impl Files, name: &[u8]) -> Option<Facts> {
+fn known(rt: &impl Files, name: &[u8]) -> Result<Option<Facts>, Trouble> {
     match calls::look(rt, name) {
-        Ok(file) => Some(file),
-        Err(error) if is_missing(error) => Some(file_facts::unknown()),
-        Err(error) => {
-            said::cannot_write(name, error);
-            None
-        }
+        Ok(file) => Ok(Some(file)),
+        Err(error) if is_missing(error) => Ok(file_facts::unknown()),
+        Err(error) => Err(said::cannot_write(name, error)),
     }
 }
 
 // Writes to standard output, unless that is a file which is read.
-fn to_standard_output(rt: &(impl Files + Print), content: &[u8], inputs: Inputs) -> bool {
-    let file = match file_facts::of_descriptor(rt, STDOUT_FILENO) {
-        Ok(file) => file,
-        Err(error) => {
-            said::cannot_write(b"-", error);
-            return false;
-        }
-    };
-    if file_facts::is_regular(file) {
-        if !is_free(b"-", file, inputs, true) {
-            return false;
-        }
+fn to_standard_output(
+    rt: &(impl Files + Print),
+    content: &[u8],
+    inputs: Inputs,
+) -> Result<(), Trouble> {
+    let file = file_facts::of_descriptor(rt, STDOUT_FILENO).map_err(|error| said::cannot_write(
+        b"-", error,
+    ))?;
+    if file_facts::is_regular(Some(file)) {
+        check_free(b"-", Some(file), inputs, true)?;
     }
     crate::tell(rt, STDOUT_FILENO, content)
-}
-
-// Makes a folder within a folder.
-fn make_folder(rt: &impl Files, folder: &[u8], own: &[u8]) -> io::Result<()> {
-    let mut path = [0u8; ROOM];
-    let n = paths::within(folder, own, b"", &mut path);
-    file_facts::make_folder(rt, &path[..n])
 }
 
 // Another name may be free, or the call was interrupted.
@@ -126,39 +106,21 @@ fn is_to_be_tried_again(error: io::Error) -> bool {
     )
 }
 
-// Makes a folder of a name that is free, and puts the name to the front of `own`. How many bytes it has.
-fn make_own(rt: &(impl Files + RandomSource), folder: &[u8], own: &mut [u8]) -> io::Result<usize>
-    ensures { ReadsAtMost result own.new }
-{
+// Makes a folder of a name within a folder.
+fn make_folder(rt: &impl Files, folder: &[u8], name: Name) -> io::Result<Name> {
+    file_facts::make_folder(rt, paths::within(folder, name.as_slice(), b"").as_slice())?;
+    Ok(name)
+}
+
+// Makes a folder of a name that is free. The name.
+fn make_own(rt: &(impl Files + RandomSource), folder: &[u8]) -> io::Result<Name> {
     for _ in 1..OWN_NAMES {
-        let n = paths::own(rt, own);
-        match make_folder(rt, folder, &own[..n]) {
-            Ok(()) => return Ok(n),
+        match make_folder(rt, folder, paths::own(rt)) {
             Err(error) if is_to_be_tried_again(error) => {}
-            Err(error) => return Err(error),
+            answer => return answer,
         }
     }
-    let n = paths::own(rt, own);
-    make_folder(rt, folder, &own[..n])?;
-    Ok(n)
-}
-
-// Removes a folder beside an output and the file in it.
-fn remove(rt: &impl Files, folder: &[u8], holder: &[u8], own: &[u8]) {
-    let mut path = [0u8; ROOM];
-    let mut n = paths::within(folder, holder, own, &mut path);
-    let _ = calls::unlink(rt, &path[..n]);
-    n = paths::within(folder, holder, b"", &mut path);
-    let _ = calls::rmdir(rt, &path[..n]);
-}
-
-// Renames a folder within a folder.
-fn rename(rt: &impl Files, folder: &[u8], from: &[u8], to: &[u8]) -> io::Result<()> {
-    let mut old = [0u8; ROOM];
-    let n = paths::within(folder, from, b"", &mut old);
-    let mut new = [0u8; ROOM];
-    let k = paths::within(folder, to, b"", &mut new);
-    calls::rename(rt, &old[..n], &new[..k])
+    make_folder(rt, folder, paths::own(rt))
 }
 
 // Gives a file a mode.
@@ -168,18 +130,12 @@ fn set_mode(file: &impl OpenFile, mode: u32) -> io::Result<()> {
 
 // Gives a new file the mode of the one whose place it takes, without the bits that lend its owner.
 fn keep_mode(file: &impl OpenFile, old: Facts) -> io::Result<()> {
-    if !old.found {
-        return Ok(());
-    }
     set_mode(file, file_facts::kept_mode(old) % 512)
 }
 
 // Gives a new file the owner of the one whose place it takes, and all bits of its mode; where the owner cannot
 // be kept, the group; where that cannot be either, the group may do nothing.
 fn keep_owner(file: &(impl OpenFile + AsFd), old: Facts) -> io::Result<()> {
-    if !old.found {
-        return Ok(());
-    }
     let mode = file_facts::kept_mode(old);
     if fchown(file, Some(old.owner), Some(old.group)).is_ok() {
         return set_mode(file, mode);
@@ -190,49 +146,18 @@ fn keep_owner(file: &(impl OpenFile + AsFd), old: Facts) -> io::Result<()> {
     set_mode(file, mode % 512 / 64 * 64 + mode % 8)
 }
 
-// Fills a new file, gives it mode and owner, and brings it to the disk.
-fn fill(file: &mut (impl Write + OpenFile + AsFd), content: &[u8], old: Facts) -> io::Result<()> {
-    calls::put(file, content)?;
-    keep_mode(file, old)?;
-    keep_owner(file, old)?;
-    calls::sync(file)
-}
-
-// Makes the file in the process's own folder, and brings it to the disk.
-fn make<R: Files>(
-    rt: &R,
-    name: &[u8],
-    folder: &[u8],
-    own: &[u8],
+// Fills a new file, gives it mode and owner of the one whose place it takes, and brings it to the disk.
+fn fill(
+    file: &mut (impl Write + OpenFile + AsFd),
     content: &[u8],
-    old: Facts,
-) -> bool
-where
-    R::File: AsFd,
-{
-    let mut path = [0u8; ROOM];
-    let n = paths::within(folder, own, own, &mut path);
-    let done = match calls::create(rt, &path[..n]) {
-        Ok(mut file) => fill(&mut file, content, old),
-        Err(error) => Err(error),
-    };
-    match done {
-        Ok(()) => true,
-        Err(error) => {
-            said::cannot_write(name, error);
-            false
-        }
+    old: Option<Facts>,
+) -> io::Result<()> {
+    file.write_all(content)?;
+    if let Some(old) = old {
+        keep_mode(file, old)?;
+        keep_owner(file, old)?;
     }
-}
-
-// Moves a claim aside that does not go, to a name of the process's own.
-fn move_aside(rt: &(impl Files + RandomSource), folder: &[u8], claim: &[u8]) {
-    let mut own = [0u8; 64];
-    if let Ok(n) = make_own(rt, folder, &mut own) {
-        if rename(rt, folder, claim, &own[..n]).is_err() {
-            remove(rt, folder, &own[..n], b"");
-        }
-    }
+    file.sync_all()
 }
 
 // Another process holds the claim, as a folder with something in it is not replaced; or the call was
@@ -249,164 +174,150 @@ fn second(rt: &impl Clock) -> u64 {
     }
 }
 
-// Makes the process's own folder the claim. One that does not go is moved aside when the clock's second
-// changes for the second time, which is after one second to two.
-fn take(
-    rt: &(impl Files + Clock + RandomSource),
-    folder: &[u8],
-    own: &[u8],
-    claim: &[u8],
-) -> io::Result<()> {
-    let mut last = second(rt);
-    let mut waited = false;
-    for _ in 1..ASKED {
-        match rename(rt, folder, own, claim) {
-            Err(error) if is_held(error) => {}
-            answer => return answer,
-        }
-        let now = second(rt);
-        if now != last {
-            if waited {
-                move_aside(rt, folder, claim);
-            }
-            waited = !waited;
-            last = now;
-        }
-        thread::yield_now();
-    }
-    rename(rt, folder, own, claim)
-}
-
-// The number of the user who runs the process, to whom the process's own folder belongs.
-fn user(rt: &impl Files, folder: &[u8], own: &[u8]) -> io::Result<u32> {
-    let mut path = [0u8; ROOM];
-    let n = paths::within(folder, own, b"", &mut path);
-    Ok(calls::look(rt, &path[..n])?.owner)
-}
-
-// Makes the process's own folder the claim that no other user takes, and puts the claim's name to the front of
-// `claim`. How many bytes it has.
-fn take_own_claim(
-    rt: &(impl Files + Clock + RandomSource),
-    folder: &[u8],
-    own: &[u8],
-    claim: &mut [u8],
-) -> io::Result<usize>
-    ensures { ReadsAtMost result claim.new }
-{
-    let n = paths::own_claim(user(rt, folder, own)?, claim);
-    take(rt, folder, own, &claim[..n])?;
-    Ok(n)
-}
-
-// Gives the file in a folder its name. If another process has moved the folder aside, that is said.
-fn give_name(rt: &impl Files, name: &[u8], folder: &[u8], holder: &[u8], own: &[u8]) -> bool {
-    let mut path = [0u8; ROOM];
-    let n = paths::within(folder, holder, own, &mut path);
-    let Err(error) = calls::rename(rt, &path[..n], name) else {
-        return true;
-    };
-    if file_facts::of_name(rt, &path[..n]).is_ok() {
-        said::cannot_write(name, error);
-    } else {
-        said::overtaken(name);
-    }
-    false
-}
-
 // Opens the folder that an output lies in.
 fn open_folder<R: Files>(rt: &R, folder: &[u8]) -> io::Result<R::File> {
-    if folder.len() == 0 {
-        return calls::open(rt, b".");
-    }
-    calls::open(rt, folder)
+    calls::open(rt, if folder.is_empty() { b"." } else { folder })
 }
 
-// Brings a folder to the disk, if it can be opened and its disk can do that.
-fn sync_folder(rt: &impl Files, name: &[u8], folder: &[u8]) -> bool {
-    let Ok(file) = open_folder(rt, folder) else {
-        return true;
-    };
-    match calls::sync(&file) {
-        Ok(()) => true,
-        Err(error) if error.kind() == ErrorKind::InvalidInput => true,
-        Err(error) => {
-            said::cannot_bring(name, error);
-            false
-        }
-    }
-}
-
-// Gives the file that was made its name, from the folder that holds it, if nothing stands against that.
-fn place_from(
-    rt: &impl Files,
-    name: &[u8],
-    folder: &[u8],
-    holder: &[u8],
-    own: &[u8],
+// A file that is written: its name, the folder that it lies in, the name of the process's own folder in that and of
+// the file in it, whether it may be written over, and the files that are read.
+#[derive(Drop)]
+struct Output<'a, R> {
+    rt: &'a R,
+    name: &'a [u8],
+    folder: &'a [u8],
+    own: &'a [u8],
     over: bool,
     inputs: Inputs,
-) -> bool {
-    let done = match known(rt, name) {
-        Some(file) => {
-            is_free(name, file, inputs, over) && give_name(rt, name, folder, holder, own)
-        }
-        None => false,
-    };
-    remove(rt, folder, holder, own);
-    done && sync_folder(rt, name, folder)
 }
 
-// The same, with the claim; where that is another user's, in a folder in which only its owner may move it,
-// with one that no other user takes.
-fn place(
-    rt: &(impl Files + Clock + RandomSource),
-    name: &[u8],
-    folder: &[u8],
-    own: &[u8],
-    over: bool,
-    inputs: Inputs,
-) -> bool {
-    if take(rt, folder, own, &CLAIM).is_ok() {
-        return place_from(rt, name, folder, &CLAIM, own, over, inputs);
+impl<R: Files + Clock + RandomSource> Output<'_, R> {
+    // A name within the folder, and one within that where it is not empty.
+    fn path(&self, holder: &[u8], inner: &[u8]) -> Path {
+        paths::within(self.folder, holder, inner)
     }
-    let mut claim = [0u8; 64];
-    match take_own_claim(rt, folder, own, &mut claim) {
-        Ok(n) => place_from(rt, name, folder, &claim[..n], own, over, inputs),
-        Err(error) => {
-            said::cannot_write(name, error);
-            remove(rt, folder, own, own);
-            false
-        }
-    }
-}
 
-// Writes a file that is no standard stream: whole, or not at all.
-fn save_file<R: Files + Clock + RandomSource>(
-    rt: &R,
-    name: &[u8],
-    content: &[u8],
-    over: bool,
-    inputs: Inputs,
-    old: Facts,
-) -> bool
-where
-    R::File: AsFd,
-{
-    let folder = &name[..paths::folder(name)];
-    let mut space = [0u8; 64];
-    let own = match make_own(rt, folder, &mut space) {
-        Ok(k) => &space[..k],
-        Err(error) => {
-            said::cannot_write(name, error);
-            return false;
-        }
-    };
-    if !make(rt, name, folder, own, content, old) {
-        remove(rt, folder, own, own);
-        return false;
+    // The file cannot be written, which is said.
+    fn cannot(&self, error: io::Error) -> Trouble {
+        said::cannot_write(self.name, error)
     }
-    place(rt, name, folder, own, over, inputs)
+
+    // Removes a folder beside the output and the file in it.
+    fn remove(&self, holder: &[u8], own: &[u8]) {
+        let _ = calls::unlink(self.rt, self.path(holder, own).as_slice());
+        let _ = calls::rmdir(self.rt, self.path(holder, b"").as_slice());
+    }
+
+    // Makes the file in the process's own folder, and brings it to the disk.
+    fn make(&self, content: &[u8], old: Option<Facts>) -> Result<(), Trouble>
+    where
+        R::File: AsFd,
+    {
+        let path = self.path(self.own, self.own);
+        calls::create(self.rt, path.as_slice())
+            .and_then(|mut file| fill(&mut file, content, old))
+            .map_err(|error| self.cannot(error))
+    }
+
+    // Moves a claim aside that does not go, to a name of the process's own.
+    fn move_aside(&self, claim: &[u8]) {
+        if let Ok(own) = make_own(self.rt, self.folder) {
+            let own = own.as_slice();
+            let (from, to) = (self.path(claim, b""), self.path(own, b""));
+            if calls::rename(self.rt, from.as_slice(), to.as_slice()).is_err() {
+                self.remove(own, b"");
+            }
+        }
+    }
+
+    // Makes the process's own folder the claim. One that does not go is moved aside when the clock's second
+    // changes for the second time, which is after one second to two.
+    fn take(&self, claim: &[u8]) -> io::Result<()> {
+        let (from, to) = (self.path(self.own, b""), self.path(claim, b""));
+        let mut last = second(self.rt);
+        let mut waited = false;
+        for _ in 1..ASKED {
+            match calls::rename(self.rt, from.as_slice(), to.as_slice()) {
+                Err(error) if is_held(error) => {}
+                answer => return answer,
+            }
+            let now = second(self.rt);
+            if now != last {
+                if waited {
+                    self.move_aside(claim);
+                }
+                waited = !waited;
+                last = now;
+            }
+            thread::yield_now();
+        }
+        calls::rename(self.rt, from.as_slice(), to.as_slice())
+    }
+
+    // Makes the process's own folder the claim that no other user takes, by the number of the user to whom the folder
+    // belongs. The claim's name.
+    fn take_own_claim(&self) -> io::Result<Name> {
+        let user = calls::look(self.rt, self.path(self.own, b"").as_slice())?.owner;
+        let claim = paths::own_claim(user);
+        self.take(claim.as_slice())?;
+        Ok(claim)
+    }
+
+    // Gives the file in a folder its name. If another process has moved the folder aside, that is said.
+    fn give_name(&self, holder: &[u8]) -> Result<(), Trouble> {
+        let path = self.path(holder, self.own);
+        calls::rename(self.rt, path.as_slice(), self.name).map_err(|error| {
+            if file_facts::of_name(self.rt, path.as_slice()).is_ok() {
+                self.cannot(error)
+            } else {
+                said::overtaken(self.name)
+            }
+        })
+    }
+
+    // Gives it its name, if nothing stands against that.
+    fn give_free_name(&self, holder: &[u8]) -> Result<(), Trouble> {
+        let file = known(self.rt, self.name)?;
+        check_free(self.name, file, self.inputs, self.over)?;
+        self.give_name(holder)
+    }
+
+    // Brings the folder to the disk, if it can be opened and its disk can do that.
+    fn sync_folder(&self) -> Result<(), Trouble> {
+        let Ok(file) = open_folder(self.rt, self.folder) else {
+            return Ok(());
+        };
+        match file.sync_all() {
+            Err(error) if error.kind() != ErrorKind::InvalidInput => {
+                Err(said::cannot_bring(self.name, error))
+            }
+            _ => Ok(()),
+        }
+    }
+
+    // Gives the file that was made its name, from the folder that holds it, which is then removed.
+    fn place_from(&self, holder: &[u8]) -> Result<(), Trouble> {
+        let done = self.give_free_name(holder);
+        self.remove(holder, self.own);
+        done?;
+        self.sync_folder()
+    }
+
+    // The same, with the claim; where that is another user's, in a folder in which only its owner may move it,
+    // with one that no other user takes.
+    fn place(&self) -> Result<(), Trouble> {
+        if self.take(CLAIM).is_ok() {
+            return self.place_from(CLAIM);
+        }
+        match self.take_own_claim() {
+            Ok(claim) => self.place_from(claim.as_slice()),
+            Err(error) => {
+                let trouble = self.cannot(error);
+                self.remove(self.own, self.own);
+                Err(trouble)
+            }
+        }
+    }
 }
 
 // Writes a file: whole, or not at all.
@@ -416,17 +327,28 @@ pub fn save<R: Files + Clock + RandomSource + Print>(
     content: &[u8],
     over: bool,
     inputs: Inputs,
-) -> bool
+) -> Result<(), Trouble>
 where
     R::File: AsFd,
 {
     if crate::is_standard(name) {
         return to_standard_output(rt, content, inputs);
     }
-    match known(rt, name) {
-        Some(old) if is_free(name, old, inputs, over) => {
-            save_file(rt, name, content, over, inputs, old)
-        }
-        _ => false,
+    let old = known(rt, name)?;
+    check_free(name, old, inputs, over)?;
+    let folder = paths::folder(name);
+    let own = make_own(rt, folder).map_err(|error| said::cannot_write(name, error))?;
+    let output = Output {
+        rt,
+        name,
+        folder,
+        own: own.as_slice(),
+        over,
+        inputs,
+    };
+    if let Err(trouble) = output.make(content, old) {
+        output.remove(output.own, output.own);
+        return Err(trouble);
     }
+    output.place()
 }

@@ -1,7 +1,7 @@
 // Tables of counts as files: eight bytes a limb, the low byte first.
-ghost use Rattle.std.specs.Prelude.{◌<◌};
+ghost use Rattle.std.specs.Prelude.{◌≤◌, length, IfOk};
 
-use crate::Loaded;
+use crate::{Loaded, Trouble};
 use std::io::Input;
 use std::rt::Files;
 
@@ -10,65 +10,31 @@ pub const LIMBS: usize = 1290;
 
 pub const BYTES: usize = 10320;
 
-// A byte as a number.
-fn wide(byte: u8) -> u64
-    ensures { result < 256 }
+// Reads the table in a file to the front of `limbs`. What follows the rows of the largest table is ignored.
+pub fn load<'a>(
+    rt: &(impl Files + Input),
+    name: &[u8],
+    limbs: &'a mut [u64],
+) -> Result<Loaded<'a, u64>, Trouble>
+    ensures { IfOk result (λ loaded. length loaded.items.now ≤ length limbs.old) }
 {
-    byte as u64
-}
-
-// The limb in the eight bytes from a place on; what is not there counts as 0.
-pub fn limb_at(bytes: &[u8], at: usize) -> u64 {
-    let mut limb = 0;
-    for k in (0..8).rev() {
-        limb = limb % 72057594037927936 * 256;
-        if at < bytes.len() {
-            if k < bytes.len() - at {
-                limb += wide(bytes[at + k]);
-            }
-        }
-    }
-    limb
-}
-
-// Takes as many limbs from some bytes as are lent, as far as the largest table goes.
-fn take(bytes: &[u8], limbs: &mut [u64]) {
-    for i in 0..limbs.len() {
-        if LIMBS <= i {
-            return;
-        }
-        limbs[i] = limb_at(bytes, 8 * i);
-    }
-}
-
-// Reads the table in a file. What follows the rows of the largest table is ignored. How many limbs it has.
-pub fn load(rt: &(impl Files + Input), path: &[u8], limbs: &mut [u64]) -> Loaded {
     let mut bytes = [0u8; BYTES];
-    let loaded = crate::load(rt, path, &mut bytes);
-    take(&bytes, limbs);
-    let facts = loaded.facts;
-    Loaded {
-        done: loaded.done,
-        count: loaded.count / 8,
-        facts,
+    let loaded = crate::load(rt, name, &mut bytes)?;
+    let (read, _) = loaded.items.as_chunks();
+    for (limb, bytes) in limbs.iter_mut().zip(read) {
+        *limb = u64::from_le_bytes(*bytes);
     }
-}
-
-// Byte k of a limb, the low one first.
-fn byte_of(limb: u64, k: usize) -> u8 {
-    let mut rest = limb;
-    for _ in 0..k {
-        rest /= 256;
-    }
-    (rest % 256) as u8
+    let count = read.len().min(limbs.len());
+    Ok(Loaded {
+        items: &limbs[..count],
+        facts: loaded.facts,
+    })
 }
 
 // Puts limbs as the bytes of a file, as far as both go.
 pub fn spell(limbs: &[u64], bytes: &mut [u8]) {
-    for i in 0..bytes.len() {
-        if limbs.len() <= i / 8 {
-            return;
-        }
-        bytes[i] = byte_of(limbs[i / 8], i % 8);
+    let spelt = limbs.iter().flat_map(|limb| limb.to_le_bytes());
+    for (to, byte) in bytes.iter_mut().zip(spelt) {
+        *to = byte;
     }
 }
