@@ -154,12 +154,7 @@ pub fn is_word(rt: &impl Env, line: Line, k: usize, text: &[u8]) -> bool {
 // The number at an argument, in ten limbs.
 fn limbs_at(rt: &impl Env, i: usize) -> Option<[u64; 10]> {
     let mut buf = io::buffer();
-    let mut limbs = [0u64; 10];
-    if decimals::limbs_in(arg(rt, i, &mut buf), &mut limbs) {
-        Some(limbs)
-    } else {
-        None
-    }
+    decimals::limbs_in(arg(rt, i, &mut buf))
 }
 
 // The number at an argument.

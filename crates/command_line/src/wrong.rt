@@ -11,12 +11,12 @@ pub enum Flag {
 
 impl Flag {
     // How an option is spelt.
-    pub fn spelt(self) -> &'static [u8] {
+    pub fn spelt(self) -> &'static str {
         match self {
-            Flag::Over => b"-f",
-            Flag::Table => b"-t",
-            Flag::Bits => b"-n",
-            Flag::Json => b"--json",
+            Flag::Over => "-f",
+            Flag::Table => "-t",
+            Flag::Bits => "-n",
+            Flag::Json => "--json",
         }
     }
 }
