@@ -1,11 +1,16 @@
 -- What the first place at which a test of cells holds says of a refusal.
-use Rattle.std.specs.Prelude.{◌≡◌, refl, Bool, true, false, cond, Some, None, List, ℕ, ◌<◌, ltb, length, get_or, position}
+use Rattle.std.specs.Prelude.{◌≡◌, refl, Bool, true, false, cond, Option, Some, None, List, ℕ, ◌≤◌, ◌<◌, ltb, length, get_or, position}
 use Rattle.std.specs.List.{position_or_len}
+use Rattle.std.specs.Option.{MatchOption}
 use Rattle.std.proofs.Common.{sym, arith, ltb-false}
 use Rattle.std.proofs.lemmas.List.Sums.{fails_before_first}
 use Rattle.std.proofs.lemmas.List.Quantifiers.{position-Some}
 use Rattle.replies.specs.Replies.{done, refused, refused_at_first}
-use Rattle.replies.specs.ReplyLaws.{first_refused, none_refused}
+use Rattle.replies.specs.ReplyLaws.{Nowhere, first_refused, none_refused}
+
+-- The first of n places at which a test holds, or that there is none.
+abbrev pub FirstAt : (ℕ → Bool) → ℕ → Option ℕ → Type 0
+FirstAt test n found = MatchOption found (Nowhere test 0 n) (λ i. (0 ≤ i) × (i < n) × (test i ≡ true) × Nowhere test 0 i)
 
 module _ (test : ℕ → Bool) (cells : List ℕ) where
   -- Where there is no first place the test holds at none.

@@ -1,10 +1,9 @@
 // The first place that is to be refused, sought place by place.
-ghost use Rattle.std.specs.Prelude.{◌≡◌, true, leb, ◌≤◌, ◌<◌, length, position};
-ghost use Rattle.std.specs.Option.{MatchOption};
+ghost use Rattle.std.specs.Prelude.{◌≡◌, leb, length, position};
 ghost use Rattle.code.specs.Code.{below_top};
 ghost use Rattle.replies.specs.Answers.{reply_of};
-ghost use Rattle.replies.specs.ReplyLaws.{Nowhere};
 ghost use Rattle.cells.specs.Finding.{cell_refusal, pattern_at, pattern_refusal};
+ghost use Rattle.cells.specs.FirstLaws.{FirstAt};
 
 use replies::{Refusal, Why};
 
@@ -46,8 +45,7 @@ fn begins(top: u8, x: usize, run: &[u8]) -> bool
 
 // The place of the first forbidden pattern: that of its first top.
 fn first_begun(top: u8, x: usize, cells: &[u8]) -> Option<usize>
-    ensures { let begun = pattern_at (below_top top x) cells.now in
-        MatchOption result (Nowhere begun 0 (length cells.now)) (λ i. (0 ≤ i) × (i < length cells.now) × (begun i ≡ true) × Nowhere begun 0 i) }
+    ensures { FirstAt (pattern_at (below_top top x) cells.now) (length cells.now) result }
 {
     (0..cells.len()).find(|place| begins(top, x, &cells[*place..]))
 }

@@ -1,12 +1,15 @@
 -- Laws of bridges: the one level of their cells, the place of a wrong one, a part that has none, and a bridge as it is written.
-use Rattle.std.specs.Prelude.{◌≡◌, refl, Bool, false, cond, not, ◌&&◌, List, [], ◌∷◌, ◌++◌, ℕ, zero, suc, ◌+◌, ◌-◌, ◌≤◌, ◌<◌, eqb, length, take, drop, get_or, set, replicate}
+use Rattle.std.specs.Prelude.{◌≡◌, refl, Bool, false, cond, not, ◌&&◌, Option, Some, None, List, [], ◌∷◌, ◌++◌, ℕ, zero, suc, ◌+◌, ◌-◌, ◌≤◌, ◌<◌, eqb, length, take, drop, get_or, position, replicate}
 use Rattle.std.proofs.Math.Bool.{true}
-use Rattle.std.proofs.Common.{append_assoc, add_assoc, add-one, arith, length-drop, drop_of_length-le, length-take-le, take_all, get_or-take}
+use Rattle.std.proofs.Common.{sym, ap, ◌∙◌, true≢false, add_assoc, arith, drop-drop, length-drop, drop_of_length-le, length-take-le, take_all, get_or-take}
 use Rattle.std.proofs.Math.Nat.{add_comm}
-use Rattle.std.proofs.lemmas.List.{length-replicate}
+use Rattle.std.proofs.lemmas.Bool.{not-false}
+use Rattle.std.proofs.lemmas.List.Quantifiers.{position-Some}
 use Rattle.std.proofs.Math.ListN.{get_or-replicate}
-use Rattle.std.proofs.Math.Seq.{take-nil, get_or-drop, paste, paste-suc}
-use borrow.Author.Tests.{eq-eqb, ne_eqb}
+use Rattle.std.proofs.Math.Seq.{take-nil, get_or-drop}
+use borrow.Author.Tests.{eq-eqb, eqb-true, ne_eqb}
+use borrow.Rule.Slice.PartMut.{put_mid}
+use Rattle.std.specs.Option.{MatchOption}
 use Rattle.replies.specs.declared.Profile.{Profile}
 use Rattle.replies.specs.Replies.{done, refused, refused_from, refused_at_first, or_else, moved_by}
 use Rattle.replies.specs.ReplyLaws.{Nowhere, first_refused, none_refused}
@@ -14,6 +17,7 @@ use Rattle.replies.specs.Ranges.{InRange}
 use Rattle.patterns.specs.Stream.{bridge, first_cell, last_cell}
 use Rattle.profiles.specs.Profiles.{patterns_of, stride}
 use Rattle.cells.specs.Finding.{pattern_refusal, cells_refusal}
+use Rattle.cells.specs.FirstLaws.{passes_nowhere}
 use Rattle.streams.specs.Streams.{bridge_in, right_bridge, bridge_refusal, part_refusal}
 
 -- The level of all cells of the bridge between two cells.
@@ -65,6 +69,46 @@ pub record RightCells (p : Profile) (cells : List ℕ) (at r : ℕ) : Type 0 whe
   pub most : r ≤ p.x
   pub right : Levelled cells at (level_at p cells at) r
   pub wrong : r < p.x → get_or cells (at + r) 0 ≡ level_at p cells at → ⊥
+
+-- The first wrong cell of the bridge at a place, or that there is none.
+abbrev pub WrongAt : Profile → List ℕ → ℕ → Option ℕ → Type 0
+WrongAt p cells at found = MatchOption found (RightCells p cells at p.x) (λ r. (r < p.x) × RightCells p cells at r)
+
+module _ (p : Profile) (cells : List ℕ) (at level : ℕ) (same : level ≡ level_at p cells at) (room : at + p.x < length cells) where
+  -- The bridge at a place.
+  run : List ℕ
+  run = take p.x (drop at cells)
+
+  run-length : length run ≡ p.x
+  unfolding run
+  run-length = length-take-le p.x (drop at cells) (omega (arith, length-drop at cells))
+
+  run_cell : (k : ℕ) → k < p.x → get_or run k 0 ≡ get_or cells (at + k) 0
+  unfolding run
+  run_cell k inside = rw (get_or-take p.x (drop at cells) k 0, get_or-drop at cells k 0)
+
+  right_cell : (k : ℕ) → k < p.x → not (eqb (get_or run k 0) level) ≡ false → get_or cells (at + k) 0 ≡ level_at p cells at
+  right_cell k inside e = sym (run_cell k inside) ∙ eqb-true (get_or run k 0) level (not-false (eqb (get_or run k 0) level) e) ∙ same
+
+  -- Its first cell of another level is its first wrong one.
+  pub wrong_found : (found : Option ℕ) → found ≡ position (λ c. not (eqb c level)) (take p.x (drop at cells)) → WrongAt p cells at found
+  unfolding run
+  wrong_found None e =
+      record {
+        most = omega arith;
+        right = λ k h. right_cell k h (passes_nowhere (λ c. not (eqb c level)) run (sym e) k (omega (arith, run-length)));
+        wrong = λ l. absurd (omega arith);
+      }
+  wrong_found (Some r) e =
+      let q = position-Some (λ c. not (eqb c level)) run r 0 (sym e) in
+      let inside : r < p.x = omega (arith, q.0, run-length) in (
+        inside,
+        record {
+          most = omega arith;
+          right = λ k h. right_cell k (omega arith) (q.2 k h);
+          wrong = λ l f. true≢false (sym q.1 ∙ ap not (eq-eqb (get_or run r 0) level (run_cell r inside ∙ f ∙ sym same)));
+        },
+      )
 
 -- A bridge in the cells, seen in the part from the word before it on.
 pub right_from : (p : Profile) (cells : List ℕ) (start r : ℕ) → 0 < p.m → RightCells p cells (start + p.m) r → RightCells p (drop start cells) p.m r
@@ -132,17 +176,7 @@ unfolding cells_refusal part_refusal pattern_refusal refused_at_first
 word_alone p part short =
     rw (take_all (stride p) part (omega arith), take_all p.m part short, no_bridge p part short, alone_from 0 _ (length part) 10)
 
--- One cell more of a bridge written from a place on, ..
-pub bridge_more : (before : List ℕ) (at x level i : ℕ) {out : List ℕ} → out ≡ paste before at (replicate x level) i → i < x → at + x < length before
-    → set out (at + i) level ≡ paste before at (replicate x level) (i + 1)
-bridge_more before at x level i o inside room =
-    rw (o, add-one)
-    (rw (get_or-replicate x i level 0 inside) at (paste-suc before at (replicate x level) i 0 (omega arith) (rw length-replicate inside)))
-
--- .. and all of it.
-pub bridge_written : (p : Profile) (before : List ℕ) (at : ℕ) {level i : ℕ} {out : List ℕ}
-    → level ≡ level_at p before at → i ≡ p.x → out ≡ paste before at (replicate p.x level) i
-    → out ≡ take at before ++ (bridge (patterns_of p) (get_or before (at - 1) 0) (get_or before (at + p.x) 0) ++ drop (at + p.x) before)
-bridge_written p before at {level} e all o =
-    let whole = take_all p.x (replicate p.x level) (omega (arith, length-replicate p.x level)) in
-    rw (o, all, whole, append_assoc, e, bridge_levels p)
+-- A bridge written to its place.
+pub bridge_filled : (p : Profile) (before filled : List ℕ) (at : ℕ) {level k : ℕ} → level ≡ level_at p before at → k ≡ p.x → filled ≡ replicate k level
+    → put_mid at k before filled ≡ take at before ++ (bridge (patterns_of p) (get_or before (at - 1) 0) (get_or before (at + p.x) 0) ++ drop (at + p.x) before)
+bridge_filled p before filled at e all f = rw (f, all, drop-drop p.x at before, e, bridge_levels p)

@@ -1,6 +1,6 @@
 -- Laws of the length of a stream: how many words it has, what number 7 lets through, and what is left behind a word and its bridge.
-use Rattle.std.specs.Prelude.{◌≡◌, refl, Bool, true, false, ◌||◌, ℕ, zero, suc, ◌+◌, ◌-◌, ◌*◌, ◌≤◌, ◌<◌}
-use Rattle.std.proofs.Common.{true≢false, mul-add, mul-le-mul, suc-mul, sub-one, arith, ltb-false, le-ltb, eqb-true, eq-eqb}
+use Rattle.std.specs.Prelude.{◌≡◌, refl, Bool, true, false, ◌||◌, List, ℕ, zero, suc, ◌+◌, ◌-◌, ◌*◌, ◌≤◌, ◌<◌, length, take}
+use Rattle.std.proofs.Common.{sym, length-take-le, true≢false, mul-add, mul-le-mul, suc-mul, sub-one, arith, ltb-false, le-ltb, eqb-true, eq-eqb}
 use Rattle.std.proofs.Math.Nat.{div-eq_of_lt, div-eq_of_eq-mul_left}
 use Rattle.std.proofs.lemmas.Bool.{not-false}
 use Rattle.replies.specs.declared.Reply.{Reply}
@@ -122,3 +122,12 @@ rest_of p cells range exact more = go (words_in p cells) refl exact
         let left : cells - stride p ≡ stream_length p (suc n) = omega arith in
         let count = words_of-length p (suc n) range in
         record { within = omega arith; exact = rw (left, count); words = rw (left, count, e) }
+
+-- A word with its bridge is so long.
+pub goes_on : (p : Profile) (part : List ℕ) → InRange p → length part ≡ stream_length p (words_in p (length part)) → p.m < length part
+    → stride p < length part
+goes_on p part range exact more = (rest_of p (length part) range exact more).within
+
+pub first_cells : (p : Profile) (part : List ℕ) → InRange p → length part ≡ stream_length p (words_in p (length part)) → p.m < length part
+    → stride p ≡ length (take (stride p) part)
+first_cells p part range exact more = sym (length-take-le (stride p) part (omega (arith, goes_on p part range exact more)))

@@ -1,7 +1,8 @@
 -- Laws of the bridges of a stream in order.
-use Rattle.std.specs.Prelude.{◌≡◌, List, drop}
+use Rattle.std.specs.Prelude.{◌≡◌, false, Option, Some, None, List, drop}
 use Rattle.std.proofs.Math.Path.{refl}
-use Rattle.std.proofs.Common.{sym, arith, drop-drop}
+use Rattle.std.proofs.Common.{sym, le_refl, arith, drop-drop}
+use Rattle.std.specs.Option.{is_some}
 use Prim.Native.Nat.{ℕ, zero, suc, ◌+◌, ◌-◌, ◌≤◌, ◌<◌}
 use Rattle.std.proofs.Math.ListN.{length, length-drop}
 use Rattle.replies.specs.declared.Profile.{Profile}
@@ -10,7 +11,7 @@ use Rattle.replies.specs.Ranges.{InRange}
 use Rattle.profiles.specs.Profiles.{stride, stream_length}
 use Rattle.streams.specs.Streams.{words_in, bridge_refusal}
 use Rattle.streams.specs.FitLaws.{no_word, last_word, rest_of}
-use Rattle.streams.specs.BridgeLaws.{RightCells, right_from, none_wrong, no_bridge}
+use Rattle.streams.specs.BridgeLaws.{WrongAt, right_from, none_wrong, no_bridge}
 use Rattle.streams.specs.PartLaws.{rest_exact}
 use Rattle.streams.specs.FromWords.{FromEach}
 
@@ -57,14 +58,15 @@ module _ (p : Profile) (cells : List ℕ) (at : ℕ) (range : InRange p) (before
   bridge_inside inside = omega (arith, before.start, rw length-drop at (goes_on inside))
 
   -- .. with it there is one more, ..
-  pub bridges_more : (r : ℕ) → at < length cells → RightCells p cells at r → p.x ≤ r → BridgesBefore p cells (at + stride p)
-  bridges_more r inside right all =
+  pub bridges_more : (found : Option ℕ) → at < length cells → WrongAt p cells at found → is_some found ≡ false → BridgesBefore p cells (at + stride p)
+  bridges_more (Some r) inside right none = absurd (cc)
+  bridges_more None inside right none =
       let start = before.start in
       let part = drop (at - p.m) cells in
       let more : p.m < length part = omega (arith, goes_on inside) in
       let back : at - p.m + p.m ≡ at = omega arith in
       let next : at + stride p - p.m ≡ at - p.m + stride p = omega arith in
-      let here = none_wrong p part range (goes_on inside) r (right_from p cells (at - p.m) r range.length.least (rw back right)) all in
+      let here = none_wrong p part range (goes_on inside) p.x (right_from p cells (at - p.m) p.x range.length.least (rw back right)) (le_refl p.x) in
       let rest = drop-drop (stride p) (at - p.m) cells in
       record {
         start = omega arith;

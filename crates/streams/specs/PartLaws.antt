@@ -1,6 +1,6 @@
 -- Laws of a test throughout a stream: no word, the last word, or a word and the rest of the stream; and how far in a refusal lies.
-use Rattle.std.specs.Prelude.{◌≡◌, refl, Bool, true, false, cond, List, ℕ, zero, suc, ◌+◌, ◌-◌, ◌≤◌, ◌<◌, length, take, drop}
-use Rattle.std.proofs.Common.{le_trans, zero-add, arith, length-take, length-drop, take_all}
+use Rattle.std.specs.Prelude.{◌≡◌, refl, Bool, true, false, cond, List, ℕ, zero, suc, ◌+◌, ◌≤◌, ◌<◌, length, drop}
+use Rattle.std.proofs.Common.{le_trans, zero-add, arith, length-take, length-drop}
 use Rattle.replies.specs.declared.Reply.{Reply}
 use Rattle.replies.specs.declared.Profile.{Profile}
 use Rattle.replies.specs.Replies.{done, is_done, refused, refused_from, refused_at_first, or_else, moved_by}
@@ -9,10 +9,6 @@ use Rattle.profiles.specs.Profiles.{stride, stream_length}
 use Rattle.cells.specs.Finding.{cell_refusal, pattern_refusal}
 use Rattle.streams.specs.Streams.{words_in, bridge_refusal, part_refusal, throughout}
 use Rattle.streams.specs.FitLaws.{no_word, rest_of}
-
--- The cells from a place on, as a slice that goes to the end.
-pub handed_on : (a : ℕ) (l : List ℕ) → take (length l - a) (drop a l) ≡ drop a l
-handed_on a l = take_all (length l - a) (drop a l) (omega (arith, length-drop a l))
 
 module _ (p : Profile) (test : List ℕ → Reply) where
   -- A stream with no word has nothing to refuse.

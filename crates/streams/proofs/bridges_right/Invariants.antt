@@ -1,6 +1,5 @@
 -- `streams::bridges_right` meets its contract. The loop's invariant: the bridges before `at` are right.
-use Prim.Native.Nat.{◌+◌, ◌-◌}
-use lib.ListN.{length}
+use Rattle.std.proofs.Common.{◌+◌, ◌-◌}
 use Rattle.streams.specs.OrderLaws.{BridgesBefore}
 use Rattle.streams.proofs.bridges_right.Given as goal
 
@@ -8,4 +7,4 @@ abbrev pub invariant-loop-at : goal.invariant-loop-at
 invariant-loop-at l = BridgesBefore l.p l.cells l.at
 
 abbrev pub decreases-loop-at : goal.decreases-loop-at
-decreases-loop-at l = length l.cells + l.next - l.at
+decreases-loop-at l = l.at-end + l.at-step - l.at
