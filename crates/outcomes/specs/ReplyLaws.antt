@@ -1,8 +1,13 @@
 -- Laws of what is told of a reply: its parts, how long it is, and what telling it answers and leaves.
 use Rattle.std.specs.Prelude.{◌≡◌, List, [], ◌∷◌, ℕ, ◌^◌, ◌≤◌, ◌<◌, length}
-use Rattle.std.proofs.Common.{◌∙◌, append-nil, arith, length-append, eq-eqb, ne_eqb}
+use Rattle.std.proofs.Common.{sym, true≢false, ◌∙◌, append-nil, arith, length-append, eq-eqb, ne_eqb}
 use Rattle.std.proofs.Math.Nat.{zero-add}
 use Rattle.replies.specs.declared.Reply.{Reply}
+use Rattle.replies.specs.declared.Refusal.{Refusal}
+use Rattle.replies.specs.declared.Written.{Written}
+use Rattle.replies.specs.declared.Why.{Why}
+use Rattle.replies.specs.Answers.{number_of, refusal_reply}
+use Rattle.replies.specs.AnswerLaws.{not_done}
 use Rattle.replies.specs.Replies.{done, is_done, room_refusal, Comes}
 use Rattle.replies.specs.NumberLaws.{picked}
 use Rattle.replies.specs.ReplyLaws.{has_room, room_enough}
@@ -55,3 +60,18 @@ module _ (r : Reply) (lent : List ℕ) {room : Reply} (tested : room ≡ room_re
     telling_done put =
         let accepted : room ≡ done = tested ∙ room_enough reply_bytes (length lent) room_for_all in
         rw accepted (writing_done _ _ _ _ lent tested none (rw zero-add at put.behind) (rw zero-add at put.left))
+
+-- A call that is refused answers the refusal and leaves the lent text, ..
+pub refused_answer : (f : Refusal) (r : Reply) (lent : List ℕ) → refusal_reply f ≡ room_refusal reply_bytes (length lent)
+    → ◌≡◌ {A = Written} (record { reply = refusal_reply f; count = 0 }) (telling_reply r lent).answer
+refused_answer f r lent e = (telling_refused r lent e (λ z. some f.why z)).0
+  where
+    some : (why : Why) → number_of why ≡ 0 → ⊥
+    some why z = true≢false (sym (eq-eqb (number_of why) 0 z) ∙ not_done why)
+
+pub refused_lent : (f : Refusal) (r : Reply) (lent : List ℕ) → refusal_reply f ≡ room_refusal reply_bytes (length lent)
+    → lent ≡ (telling_reply r lent).lent
+refused_lent f r lent e = (telling_refused r lent e (λ z. some f.why z)).1
+  where
+    some : (why : Why) → number_of why ≡ 0 → ⊥
+    some why z = true≢false (sym (eq-eqb (number_of why) 0 z) ∙ not_done why)

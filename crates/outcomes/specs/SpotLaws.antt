@@ -1,12 +1,21 @@
 -- Laws of where a place lies: in no stream, in a word, in a bridge.
-use Rattle.std.specs.Prelude.{◌≡◌, refl, Bool, true, false, not, ◌||◌, ℕ, ◌+◌, ◌-◌, ◌/◌, ◌%◌, ◌<◌, ltb, leb}
+use Rattle.std.specs.Prelude.{◌≡◌, refl, Result, Ok, Err, Bool, true, false, not, ◌||◌, ℕ, ◌+◌, ◌-◌, ◌/◌, ◌%◌, ◌<◌, ltb, leb}
 use Rattle.std.proofs.Common.{true≢false, leb-false, eqb-true}
 use Rattle.replies.specs.declared.Profile.{Profile}
 use Rattle.replies.specs.declared.Reply.{Reply}
 use Rattle.replies.specs.Replies.{is_done, profile_refusal}
+use Rattle.std.specs.Result.{is_err}
+use Rattle.replies.specs.declared.Refusal.{Refusal}
+use Rattle.replies.specs.Answers.{reply_of}
+use Rattle.replies.specs.AnswerLaws.{not_done}
 use Rattle.replies.specs.ReplyLaws.{profile_in_range}
 use Rattle.replies.specs.Ranges.{InRange, most_cells}
 use Rattle.outcomes.specs.Outcomes.{spot_in, nowhere, spot_of}
+
+-- An answer is a refusal exactly where its reply is not done.
+pub refused_is : {A : Type 0} (answer : Result A Refusal) → is_err answer ≡ not (is_done (reply_of answer))
+refused_is (Ok found) = refl
+refused_is (Err r) = rw (not_done r.why)
 
 -- A profile and a place that some stream of it may reach.
 pub record InStream (p : Profile) (place : ℕ) : Type 0 where
