@@ -1,6 +1,6 @@
 -- The forty rows are right: one computed test over the list, carried to each row.
 use Rattle.std.specs.Prelude.{◌≡◌, refl, Bool, true, ◌&&◌, List, [], ◌∷◌, map, ℕ, zero, suc, ◌-◌, ◌^◌, ◌≤◌, ◌<◌, ltb, leb, eqb, length, get_or}
-use Rattle.std.proofs.Common.{sym, ap₂, arith, pow_pos, ltb-true, leb-true, eqb-true}
+use Rattle.std.proofs.Common.{ap₂, arith, pow_pos, ltb-true, leb-true, eqb-true}
 use Rattle.std.proofs.Math.Bool.{and-eq-true_iff}
 use Rattle.replies.specs.declared.Reply.{Reply}
 use Rattle.replies.specs.Replies.{done, is_done, refused, or_else, outside_refusal, profile_refusal}
@@ -13,7 +13,8 @@ use Rattle.code.proofs.MessageLaws.{length_is_largest}
 use Rattle.code.proofs.Theorem1.{recursion_counts}
 use Rattle.messages.specs.HighestBit.{one_largest}
 use Rattle.catalogue.specs.declared.Published.{Published}
-use Rattle.catalogue.specs.Catalogue.{published_rows, row_at, publishing}
+use Rattle.catalogue.specs.declared.rows.TheConstants.{PUBLISHED}
+use Rattle.catalogue.specs.Catalogue.{row, published_rows, row_at, publishing}
 use Rattle.catalogue.specs.RowsRight.{of_row, RowRight}
 
 -- The test of a row: its reply, its profile, and 2^s against N(m) - 2 by theorem 1's recursion.
@@ -76,26 +77,16 @@ pub no_such_row : (i : ℕ) → 40 ≤ i → publishing i ≡ record { reply = r
 unfolding publishing
 no_such_row i l = past_end published_rows i l
 
-column : (f : Published → ℕ) → f (row_at [] 0) ≡ 0 → (rows : List Published) (i : ℕ) → get_or (map f rows) i 0 ≡ f (row_at rows i)
-column f e [] i = sym e
-column f e (r ∷ rows) zero = refl
-column f e (r ∷ rows) (suc i) = column f e rows i
+-- The rows of the constant, as the list has them.
+numbers : List (ℕ × ℕ × ℕ × ℕ) → List Published
+numbers = map (λ (r : ℕ × ℕ × ℕ × ℕ). row r.0 r.1 r.2 r.3)
 
--- The four columns, read at the number of a row, are the row.
-pub row_by_columns : (i : ℕ) → i < 40
-    → record {
-      reply = done;
-      q = get_or (map (λ (r : Published). r.q) published_rows) i 0;
-      x = get_or (map (λ (r : Published). r.x) published_rows) i 0;
-      m = get_or (map (λ (r : Published). r.m) published_rows) i 0;
-      s = get_or (map (λ (r : Published). r.s) published_rows) i 0;
-    } ≡ publishing i
-unfolding publishing
-row_by_columns i l =
-    rw (
-      column (λ r. r.q) refl published_rows i,
-      column (λ r. r.x) refl published_rows i,
-      column (λ r. r.m) refl published_rows i,
-      column (λ r. r.s) refl published_rows i,
-      ← (rows_right i l).answered,
-    )
+row_read : (rows : List (ℕ × ℕ × ℕ × ℕ)) (i : ℕ) (r : ℕ × ℕ × ℕ × ℕ) → i < length rows → r ≡ get_or rows i r → row r.0 r.1 r.2 r.3 ≡ row_at (numbers rows) i
+unfolding numbers
+row_read [] i r l e = absurd (omega arith)
+row_read (s ∷ rows) zero r l e = rw e
+row_read (s ∷ rows) (suc i) r l e = row_read rows i r (omega arith) e
+
+pub row_published : (i : ℕ) (r : ℕ × ℕ × ℕ × ℕ) → i < 40 → r ≡ get_or PUBLISHED i r → row r.0 r.1 r.2 r.3 ≡ publishing i
+unfolding publishing numbers
+row_published i r l e = row_read PUBLISHED i r l e
