@@ -16,7 +16,7 @@ fn gather_piece(bytes: &[u8], at: usize, c: usize) -> u64
     if c == 0 {
         return 0;
     }
-    piece::out_of(bytes[at / 8] as u64, 8 - at % 8 - c, c)
+    piece::out_of(u64::from(bytes[at / 8]), 8 - at % 8 - c, c)
 }
 
 // The number of n whole bytes of `bytes` from place `first` on, behind the number `front`.
@@ -25,10 +25,8 @@ fn gather_bytes(front: u64, bytes: &[u8], first: usize, n: usize) -> u64
     ensures { result ≡ front * 2 ^ (8 * n) + number_of (take (8 * n) (drop (8 * first) (bits_of_bytes bytes.now))) }
 {
     let mut number = front;
-    let mut i = 0;
-    while i < n {
-        number = number * 256 + bytes[first + i] as u64;
-        i += 1;
+    for byte in &bytes[first..first + n] {
+        number = number * 256 + u64::from(*byte);
     }
     number
 }
@@ -56,12 +54,10 @@ pub fn number_at(bytes: &[u8], at: usize, s: usize, out: &mut [u64])
     ensures { out.new ≡ holding 10 (number_of (take s (drop at (bits_of_bytes bytes.now)))) out.old }
 {
     let mut left = s;
-    let mut i = 0;
-    while i < 10 {
-        let k = piece::lesser(64, left);
+    for limb in out[..10].iter_mut() {
+        let k = left.min(64);
         left -= k;
-        out[i] = gather(bytes, at + left, k);
-        i += 1;
+        *limb = gather(bytes, at + left, k);
     }
 }
 
@@ -83,10 +79,8 @@ fn put_bytes(limb: u64, n: usize, out: &mut [u8], first: usize)
     ensures { out.new ≡ with_bits (8 * first) (bits_of (8 * n) limb) out.old }
 {
     let mut rest = limb;
-    let mut place = first + n;
-    while place > first {
-        place -= 1;
-        out[place] = piece::last_byte(rest);
+    for place in (first..first + n).rev() {
+        out[place] = (rest % 256) as u8;
         rest /= 256;
     }
 }
@@ -111,11 +105,8 @@ pub fn put_number(number: &[u64], s: usize, out: &mut [u8], at: usize)
     requires { (10 ≤ length number.now) × (s ≤ 640) × (at + s ≤ 8 * length out.old) × (at + s < 2 ^ 32) }
     ensures { out.new ≡ with_bits at (bits_of s (number_at 10 number.now 0)) out.old }
 {
-    let mut done = 0;
-    while done < s {
-        let i = (s - done - 1) / 64;
-        let k = s - done - 64 * i;
-        put(number[i], k, out, at + done);
-        done += k;
+    for i in (0..s.div_ceil(64)).rev() {
+        let k = (s - 64 * i).min(64);
+        put(number[i], k, out, at + s - 64 * i - k);
     }
 }

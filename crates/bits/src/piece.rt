@@ -2,18 +2,11 @@
 // into a byte.
 ghost use Rattle.std.specs.Prelude.{◌≡◌, min, ◌+◌, ◌-◌, ◌*◌, ◌/◌, ◌%◌, ◌^◌, ◌≤◌, ◌<◌};
 
-// The lesser of two numbers.
-pub fn lesser(a: usize, b: usize) -> usize
-    ensures { result ≡ min a b }
-{
-    if a < b { a } else { b }
-}
-
 // How many of k bits from bit place `at` on lie in a byte begun before it.
 pub fn begun(at: usize, k: usize) -> usize
     ensures { result ≡ min ((8 - at % 8) % 8) k }
 {
-    lesser((8 - at % 8) % 8, k)
+    ((8 - at % 8) % 8).min(k)
 }
 
 // c bits of a number, above its `below` lowest ones.
@@ -37,13 +30,6 @@ pub fn into_byte(byte: u8, room: usize, c: usize, piece: u64) -> u8
     requires { (c ≤ room) × (room ≤ 8) × (piece < 2 ^ c) }
     ensures { result ≡ (byte / 2 ^ room * 2 ^ c + piece) * 2 ^ (room - c) }
 {
-    let kept = behind(byte as u64 >> room, c, piece);
+    let kept = behind(u64::from(byte) >> room, c, piece);
     behind(kept, room - c, 0) as u8
-}
-
-// The last byte of a number.
-pub fn last_byte(number: u64) -> u8
-    ensures { result ≡ number % 256 }
-{
-    (number % 256) as u8
 }

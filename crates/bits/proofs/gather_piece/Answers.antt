@@ -1,6 +1,5 @@
 -- `bits::gather_piece` meets its contract: the number of a piece is read off its byte.
-use mathlib.Core.Path.{sym, ◌∙◌}
-use native.Mathlib.Omega.{arith}
+use Rattle.std.proofs.Common.{sym, arith}
 use Rattle.bits.specs.Bits.{number_of}
 use Rattle.bits.specs.MovingLaws.{number_from_piece}
 use Rattle.bits.proofs.gather_piece.Goals as goal
@@ -12,4 +11,4 @@ returns-then-c-eq0 c = rw c.if-c-eq0.true
 pub returns : goal.returns
 returns c =
     let args = c.args in
-    c.out_of.ensures ∙ sym (number_from_piece args.bytes.now args.at args.c (omega arith) (omega arith))
+    rw (c.out_of.ensures, c.from.ensures) (sym (number_from_piece args.bytes.now args.at args.c (omega arith) (omega arith)))
