@@ -1,10 +1,15 @@
 -- Laws of what is printed, one for each way out: refused, too many, listed, no line; and of what listing answers and leaves.
 use Rattle.std.specs.Prelude.{◌≡◌, Bool, true, false, List, [], ◌∷◌, ◌++◌, ℕ, ◌≤◌, ltb, length}
-use Rattle.std.proofs.Common.{◌∙◌, arith}
+use Rattle.std.proofs.Common.{sym, true≢false, ◌∙◌, arith}
 use Rattle.std.proofs.Math.Nat.{zero-add}
 use borrow.Author.Tests.{ltb-false, eq-eqb, ne_eqb}
 use Rattle.replies.specs.declared.Reply.{Reply}
 use Rattle.replies.specs.declared.Profile.{Profile}
+use Rattle.replies.specs.declared.Refusal.{Refusal}
+use Rattle.replies.specs.declared.Written.{Written}
+use Rattle.replies.specs.declared.Why.{Why}
+use Rattle.replies.specs.Answers.{number_of, refusal_reply}
+use Rattle.replies.specs.AnswerLaws.{not_done}
 use Rattle.replies.specs.Replies.{done, profile_refusal, room_refusal, Comes}
 use Rattle.replies.specs.ReplyLaws.{has_room, room_enough}
 use Rattle.replies.specs.WritingLaws.{writing_refused, writing_done}
@@ -21,7 +26,7 @@ abbrev pub refused_parts : Reply → List (List ℕ)
 refused_parts r = bytes "refused " ∷ decimal r.number ∷ bytes "\n" ∷ []
 
 -- What is printed for a profile that is refused has these parts.
-refused_parts_lem : (p : Profile) {r : Reply} → r ≡ profile_refusal p → (r.number ≡ 0 → ⊥) → answer_text p ≡ in_row (refused_parts r)
+pub refused_parts_lem : (p : Profile) {r : Reply} → r ≡ profile_refusal p → (r.number ≡ 0 → ⊥) → answer_text p ≡ in_row (refused_parts r)
 unfolding answer_text
 refused_parts_lem p {r} e some = rw (← e, ne_eqb r.number 0 some)
 
@@ -75,3 +80,15 @@ module _ (line lent : List ℕ) {reply : Reply} (tested : reply ≡ room_refusal
     listing_done put =
         let accepted : reply ≡ done = tested ∙ room_enough most_bytes (length lent) room_for_all in
         rw accepted (writing_done _ _ _ _ lent tested none (rw zero-add at put.behind) (rw zero-add at put.left))
+
+-- A call that is refused answers the refusal and leaves the lent text.
+pub number_some : (why : Why) → number_of why ≡ 0 → ⊥
+number_some why none = true≢false (sym (eq-eqb (number_of why) 0 none) ∙ not_done why)
+
+pub refused_answer : (f : Refusal) (line lent : List ℕ) → refusal_reply f ≡ room_refusal most_bytes (length lent)
+    → ◌≡◌ {A = Written} (record { reply = refusal_reply f; count = 0 }) (listing line lent).answer
+refused_answer f line lent e = (listing_refused line lent e (number_some f.why)).0
+
+pub refused_lent : (f : Refusal) (line lent : List ℕ) → refusal_reply f ≡ room_refusal most_bytes (length lent)
+    → lent ≡ (listing line lent).lent
+refused_lent f line lent e = (listing_refused line lent e (number_some f.why)).1

@@ -1,8 +1,9 @@
 -- Laws of the table that a code is listed from: it belongs, its row m says how many words there are, and each word is spelt from it.
-use Rattle.std.specs.Prelude.{◌≡◌, refl, Bool, true, false, List, [], ◌∷◌, ◌++◌, ℕ, ◌+◌, ◌*◌, ◌≤◌, ◌<◌, ltb, length, take, drop, get_or}
+use Rattle.std.specs.Prelude.{◌≡◌, refl, List, [], ◌∷◌, ◌++◌, ℕ, ◌+◌, ◌*◌, ◌≤◌, ◌<◌, ltb, length, take, drop, get_or}
 use Rattle.std.proofs.Common.{◌∙◌, le_refl, le_of_lt, add-zero, arith, take_at, lt-ltb, le-ltb}
-use Rattle.limbs.specs.declared.Order.{Order}
-use Rattle.limbs.specs.declared.Order.TheVariants.{Less, Equal, Greater}
+use Rattle.std.specs.declared.cmp.Ordering.{Ordering}
+use Rattle.std.specs.declared.cmp.Ordering.TheVariants.{Less, Equal, Greater}
+use Rattle.std.specs.Ordering.{is_lt}
 use Rattle.limbs.specs.Limbs.{value, number_at, order_of}
 use Rattle.limbs.specs.OrderLaws.{Ordered, order_says}
 use Rattle.limbs.specs.ValueLaws.{number_at_more, lowest_limbs}
@@ -32,14 +33,8 @@ most_words_lem : number_at 10 most_words 0 ≡ 4096
 unfolding number_at value
 most_words_lem = refl
 
--- What an order says of two numbers: whether the first is below the second.
-abbrev is_less : Order → Bool
-is_less Less = true
-is_less Equal = false
-is_less Greater = false
-
--- It says so rightly.
-is_less_lem : (a b : ℕ) (order : Order) → Ordered a b order → is_less order ≡ ltb a b
+-- What an order says of two numbers, it says rightly: whether the first is below the second.
+is_less_lem : (a b : ℕ) (order : Ordering) → Ordered a b order → is_lt order ≡ ltb a b
 is_less_lem a b Less l = rw (lt-ltb a b l)
 is_less_lem a b Equal e = rw (le-ltb a b (omega arith))
 is_less_lem a b Greater l = rw (le-ltb a b (le_of_lt l))
@@ -51,8 +46,8 @@ first_limb l at = number_at_more 0 l at ∙ rw add-zero (omega arith)
 
 module _ {p : Profile} {table : List ℕ} (belongs : Belongs p p.m table) where
   -- Row m, compared with the most words that are listed, says whether there are more.
-  pub words_compared : {found order : Order} → found ≡ order_of (number_at 10 most_words 0) (number_at 10 table (10 * p.m)) → found ≡ order
-      → is_less order ≡ ltb 4096 (word_count p)
+  pub words_compared : {found order : Ordering} → found ≡ order_of (number_at 10 most_words 0) (number_at 10 table (10 * p.m)) → found ≡ order
+      → is_lt order ≡ ltb 4096 (word_count p)
   words_compared {found} {order} e f =
       is_less_lem 4096 (word_count p) order (rw (← f) (rw (most_words_lem, belongs.rows p.m (le_refl _)) at (order_says _ _ e)))
 

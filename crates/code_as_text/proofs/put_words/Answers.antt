@@ -1,17 +1,24 @@
-use native.Mathlib.Omega.{arith}
-use Rattle.code_as_text.specs.ListedLaws.{no_lines, line_fits, line_put}
+use Rattle.std.proofs.Common.{◌≡◌, add-one, arith}
+use Rattle.text.specs.WriterLaws.{puts_nothing, puts_more}
+use Rattle.code_as_text.specs.Printed.{word_lines}
+use Rattle.code_as_text.specs.ListedLaws.{line_fits}
 use Rattle.code_as_text.proofs.put_words.Goals as goal
 
 pub loop-i-init : goal.loop-i-init
-loop-i-init c = (omega arith, no_lines _ c.args.out.now c.args.at (omega (arith, c.requires.4)))
+unfolding word_lines
+loop-i-init c = puts_nothing _ (omega (arith, c.requires.4))
 
-pub put_word-next-requires : goal.put_word-next-requires
-put_word-next-requires c =
+pub put_word-requires : goal.put_word-requires
+put_word-requires c =
     let pre = c.requires in
-    let l = c.loop-i in
-    (pre.0, pre.1, pre.2, omega arith, line_fits _ l.i l.invariant.1 c.args.n (omega arith) pre.4)
+    let i = c.loop-i.i in
+    (pre.0, pre.1, pre.2, omega arith, line_fits c.args.p i c.loop-i.invariant.put c.args.n (omega arith) pre.4)
 
 pub loop-i-preserved : goal.loop-i-preserved
-loop-i-preserved c =
-    let l = c.loop-i in
-    (omega arith, line_put _ l.i l.invariant.1 c.put_word-next.ensures)
+unfolding word_lines
+loop-i-preserved c = rw add-one (puts_more c.loop-i.invariant c.put_word.ensures)
+
+pub returns : goal.returns
+returns c =
+    let all : c.loop-i.i ≡ c.args.n = omega arith in
+    rw (← all) c.loop-i.invariant
