@@ -85,8 +85,9 @@ impl<'a, R: Env> Items<'a, R> {
         if self.end <= self.at {
             return None;
         }
-        self.at += 1;
-        Some(self.at - 1)
+        let i = self.at;
+        self.at = i + 1;
+        Some(i)
     }
 }
 

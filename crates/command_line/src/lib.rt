@@ -2,7 +2,8 @@
 // wrong with it.
 #![tactic(auto)]
 
-ghost use Rattle.std.specs.Prelude.{◌≤◌, length};
+ghost use Rattle.std.specs.Prelude.{◌≡◌, ◌≤◌, length, MatchResult};
+ghost use Rattle.command_line.specs.Lines.{has};
 
 use items::{Item, Items, Kind, Words};
 use replies::{Profile, Refusal};
@@ -47,12 +48,23 @@ impl Line {
     }
 
     // An option stands in the line.
-    pub fn has(&self, flag: Flag) -> bool {
+    pub fn has(&self, flag: Flag) -> bool
+        ensures { result ≡ has self.now flag }
+    {
         match flag {
             Flag::Over => self.over,
             Flag::Table => self.table.is_some(),
             Flag::Bits => self.bits.is_some(),
             Flag::Json => self.json,
+        }
+    }
+
+    // The argument that is word k, if so many words were read.
+    fn argument(&self, rt: &impl Env, k: usize) -> Option<usize> {
+        if k < self.count {
+            argument(rt, k)
+        } else {
+            None
         }
     }
 }
@@ -148,7 +160,7 @@ pub fn word<'a>(rt: &impl Env, k: usize, buf: &'a mut [u8]) -> &'a [u8]
 
 // Whether word k is this text.
 pub fn is_word(rt: &impl Env, line: Line, k: usize, text: &[u8]) -> bool {
-    k < line.count && argument(rt, k).is_some_and(|i| is_text(rt, i, text))
+    line.argument(rt, k).is_some_and(|i| is_text(rt, i, text))
 }
 
 // The number at an argument, in ten limbs.
@@ -170,10 +182,7 @@ pub fn limbs(rt: &impl Env, k: usize) -> Option<[u64; 10]> {
 
 // Word k as a number.
 pub fn number(rt: &impl Env, line: Line, k: usize) -> Result<u64, Fault> {
-    if line.count <= k {
-        return Err(Fault::Missing);
-    }
-    number_at(rt, argument(rt, k).ok_or(Fault::Missing)?)
+    number_at(rt, line.argument(rt, k).ok_or(Fault::Missing)?)
 }
 
 // The subcommands.
@@ -204,7 +213,9 @@ pub struct Named {
 
 impl Named {
     // What was typed, unless its row is refused.
-    pub fn asked(self) -> Result<Asked, Refusal> {
+    pub fn asked(self) -> Result<Asked, Refusal>
+        ensures { MatchResult result (λ asked. (self.profile ≡ Ok asked.profile) × (asked.next ≡ self.next)) (λ refusal. self.profile ≡ Err refusal) }
+    {
         let profile = self.profile?;
         Ok(Asked {
             profile,
@@ -221,32 +232,20 @@ pub struct Asked {
 }
 
 // A published profile, by the number of its row.
-fn published(row: u64) -> Result<Profile, Refusal> {
-    let row = catalogue::published_profile(row as usize)?;
-    Ok(Profile {
-        q: row.q,
-        m: row.m,
-        x: row.x,
-    })
+fn published(row: usize) -> Result<Profile, Refusal> {
+    let row = catalogue::published_profile(row)?;
+    Ok(replies::profile_of(row.q, row.m, row.x))
 }
 
 // The profile that a subcommand asks for, from word 1 on: none; q and x, where there are no words and so no m; or
 // `row` and a number, or q, m and x.
 pub fn asking(rt: &impl Env, line: Line, command: Command) -> Result<Named, Fault> {
-    let word = |k| -> Result<usize, Fault> { Ok(number(rt, line, k)? as usize) };
-    let (q, m, x, next) = match command {
-        Command::Profiles | Command::Help => (0, 0, 0, 1),
-        Command::Find => (word(1)?, 0, word(2)?, 3),
-        _ if is_word(rt, line, 1, b"row") => {
-            return Ok(Named {
-                profile: published(number(rt, line, 2)?),
-                next: 3,
-            });
-        }
-        _ => (word(1)?, word(2)?, word(3)?, 4),
+    let at = |k| -> Result<usize, Fault> { Ok(number(rt, line, k)? as usize) };
+    let (profile, next) = match command {
+        Command::Profiles | Command::Help => (Ok(replies::profile_of(0, 0, 0)), 1),
+        Command::Find => (Ok(replies::profile_of(at(1)?, 0, at(2)?)), 3),
+        _ if is_word(rt, line, 1, b"row") => (published(at(2)?), 3),
+        _ => (Ok(replies::profile_of(at(1)?, at(2)?, at(3)?)), 4),
     };
-    Ok(Named {
-        profile: Ok(Profile { q, m, x }),
-        next,
-    })
+    Ok(Named { profile, next })
 }

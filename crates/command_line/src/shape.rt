@@ -1,15 +1,17 @@
 // The shape of each subcommand: the options that it takes, and the words behind the profile.
+ghost use Rattle.std.specs.Prelude.{◌≡◌, IfSome, IsNone};
+ghost use Rattle.command_line.specs.Lines.{name_of};
+
 use crate::items::Words;
 use crate::{Command, Fault, Flag, Line};
 use std::rt::Env;
 
-// Which subcommand word k is.
-pub fn command(rt: &impl Env, line: Line, k: usize) -> Option<Command> {
-    if line.count <= k {
-        return None;
-    }
-    let mut buf = io::buffer();
-    match crate::word(rt, k, &mut buf) {
+// The subcommand that has a name.
+fn named(name: &[u8]) -> Option<Command>
+    ensures named { IfSome result (λ c. name.now ≡ name_of c) }
+    ensures other { (c : _) → name.now ≡ name_of c → result ≡ Some c }
+{
+    match name {
         b"read" => Some(Command::Read),
         b"check" => Some(Command::Check),
         b"write" => Some(Command::Write),
@@ -25,6 +27,12 @@ pub fn command(rt: &impl Env, line: Line, k: usize) -> Option<Command> {
         b"help" => Some(Command::Help),
         _ => None,
     }
+}
+
+// Which subcommand word k is.
+pub fn command(rt: &impl Env, line: Line, k: usize) -> Option<Command> {
+    let mut buf = io::buffer();
+    named(crate::arg(rt, line.argument(rt, k)?, &mut buf))
 }
 
 impl Command {

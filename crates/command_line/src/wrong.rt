@@ -1,4 +1,6 @@
 // What is wrong with a command line.
+ghost use Rattle.std.specs.Prelude.{◌≡◌};
+ghost use Rattle.command_line.specs.Lines.{spelt};
 
 // An option.
 #[derive(Clone, Copy, PartialEq, Eq, Debug)]
@@ -11,7 +13,9 @@ pub enum Flag {
 
 impl Flag {
     // How an option is spelt.
-    pub fn spelt(self) -> &'static str {
+    pub fn spelt(self) -> &'static str
+        ensures { result.now ≡ spelt self }
+    {
         match self {
             Flag::Over => "-f",
             Flag::Table => "-t",

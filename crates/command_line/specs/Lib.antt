@@ -1,0 +1,2 @@
+-- Lines says what stands in a command line.
+pub mod Lines
