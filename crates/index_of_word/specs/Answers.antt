@@ -1,16 +1,21 @@
 -- A word that is not refused: its index may be written to the limbs in use of the table's last row, and fills ten limbs.
-use Rattle.std.specs.Prelude.{◌≡◌, refl, not, List, ◌∷◌, ◌++◌, ℕ, zero, suc, ◌+◌, ◌-◌, ◌*◌, ◌/◌, ◌%◌, ◌^◌, ◌≤◌, ◌<◌, eqb, length, take, drop, replicate}
+use Rattle.std.specs.Prelude.{Ok, Err, ◌≡◌, refl, not, List, ◌∷◌, ◌++◌, ℕ, zero, suc, ◌+◌, ◌-◌, ◌*◌, ◌/◌, ◌%◌, ◌^◌, ◌≤◌, ◌<◌, eqb, length, take, drop, replicate}
 use Rattle.std.proofs.Common.{ap, sym, le_refl, le_trans, zero-add, div-lt_iff_lt-mul, pow-suc, suc-add, arith, length-take, eqb-true, eq-eqb, ne_eqb}
 use Rattle.std.proofs.Math.Nat.{min-le_left, lt_trans, pow-zero}
 use Rattle.std.proofs.Math.Arith.{lt-one}
 use Rattle.limbs.specs.Limbs.{base, limbs_of, holding, used, AllLimbs}
 use Rattle.limbs.specs.ValueLaws.{base_positive}
 use Rattle.limbs.specs.UsedLaws.{used-length, number_at_below_used}
+use Rattle.replies.specs.AnswerLaws.{not_done, refusal_decides, passed_leaves}
+use Rattle.replies.specs.Answers.{refusal_reply}
+use Rattle.replies.specs.declared.Refusal.{Refusal}
 use Rattle.replies.specs.declared.Reply.{Reply}
+use Rattle.tables.specs.WritingLaws.{in_range}
+use Rattle.index_of_word.specs.Given.{indexed_of}
 use Rattle.replies.specs.declared.Profile.{Profile}
 use Rattle.replies.specs.Replies.{done, refused_if, profile_refusal}
-use Rattle.replies.specs.ReplyLaws.{test_failed, both_done, profile_in_range, decides, leaves}
-use Rattle.replies.specs.Ranges.{InRange}
+use Rattle.replies.specs.ReplyLaws.{test_failed, both_done, profile_in_range}
+use Rattle.replies.specs.Ranges.{Between, InRange}
 use Rattle.listing.proofs.Order.{index_below_count}
 use Rattle.code.specs.Code.{N, index}
 use Rattle.profiles.specs.Profiles.{is_legal, LegalFor, word_count, index_for, patterns_of}
@@ -46,26 +51,12 @@ index_in_ten p n cells l h =
     let ten : n + (10 - n) ≡ 10 = omega arith in
     rw ten at (limbs_above n (10 - n) (index_for p cells) h)
 
--- The first test that refuses decides.
-module _ (p : Profile) (table cells : List ℕ) {profile : Reply} (e : profile ≡ profile_refusal p) where
-  pub profile_decides : (profile.number ≡ 0 → ⊥) → profile ≡ word_refusal p table cells
-  unfolding word_refusal
-  profile_decides n = decides profile _ _ e n
+-- The levels and the reach of a profile that is not refused.
+pub range_levels : (p : Profile) → done ≡ profile_refusal p → Between 2 32 p.q
+range_levels p e = (in_range p e).levels
 
-  pub table_decides : {rows : Reply} → profile.number ≡ 0 → rows ≡ table_refusal p table → (rows.number ≡ 0 → ⊥) → rows ≡ word_refusal p table cells
-  unfolding word_refusal
-  table_decides {rows} z f n = leaves profile rows _ _ e z (decides rows _ _ f n)
-
-  pub length_decides : {rows long : Reply} → profile.number ≡ 0 → rows ≡ table_refusal p table → rows.number ≡ 0
-      → long ≡ refused_if (not (eqb (length cells) p.m)) 7 → (long.number ≡ 0 → ⊥) → long ≡ word_refusal p table cells
-  unfolding word_refusal
-  length_decides {rows} {long} z f y g n = leaves profile long _ _ e z (leaves rows long _ _ f y (decides long _ _ g n))
-
-  pub cells_decide : {rows long cell : Reply} → profile.number ≡ 0 → rows ≡ table_refusal p table → rows.number ≡ 0
-      → long ≡ refused_if (not (eqb (length cells) p.m)) 7 → long.number ≡ 0 → cell ≡ cells_refusal p.q (patterns_of p) cells
-      → cell ≡ word_refusal p table cells
-  unfolding word_refusal
-  cells_decide {rows} {long} {cell} z f y g w h = leaves profile cell _ _ e z (leaves rows cell _ _ f y (leaves long cell _ _ g w h))
+pub range_reach : (p : Profile) → done ≡ profile_refusal p → Between 1 8 p.x
+range_reach p e = (in_range p e).reach
 
 -- A word that 7 does not refuse has m cells.
 length_is : (n m : ℕ) → (refused_if (not (eqb n m)) 7).number ≡ 0 → n ≡ m
@@ -125,12 +116,17 @@ module _ (p : Profile) (table cells : List ℕ) (all : AllLimbs table) (s : NotR
   index_whole = index_in_ten p _ cells few_limbs index_fits
 
 -- The answer where nothing is refused, and where something is.
-pub indexing_done : (p : Profile) (table cells : List ℕ) {sum : List ℕ} → (word_refusal p table cells).number ≡ 0
-    → sum ≡ limbs_of 10 (index_for p cells) → record { reply = done; index = record { 0 = sum } } ≡ indexing p table cells
-unfolding indexing
-indexing_done p table cells e f = rw (eq-eqb _ 0 e, f)
+pub word_passed : (p : Profile) (table cells : List ℕ) → done ≡ word_refusal p table cells → NotRefused p table cells
+word_passed p table cells e = not_refused_word p table cells (ap (λ (r : Reply). r.number) (sym e))
 
-pub indexing_refused : (p : Profile) (table cells : List ℕ) → ((word_refusal p table cells).number ≡ 0 → ⊥)
-    → record { reply = word_refusal p table cells; index = record { 0 = no_limbs } } ≡ indexing p table cells
-unfolding indexing limbs_of
-indexing_refused p table cells n = rw (ne_eqb (word_refusal p table cells).number 0 n)
+pub indexing_done : (p : Profile) (table cells : List ℕ) {sum : List ℕ} → done ≡ word_refusal p table cells
+    → sum ≡ limbs_of 10 (index_for p cells) → indexed_of (Ok (record { 0 = sum })) ≡ indexing p table cells
+unfolding indexing
+indexing_done p table cells e f = rw (← e, f)
+
+pub indexing_refused : (p : Profile) (table cells : List ℕ) (r : Refusal) → refusal_reply r ≡ word_refusal p table cells → indexed_of (Err r) ≡ indexing p table cells
+unfolding indexing
+indexing_refused p table cells r e = rw (← e, not_done r.why)
+
+-- What the tests go by.
+pub ruleset word_calls = (refusal_decides, passed_leaves, in_range, range_levels, range_reach)

@@ -2,21 +2,35 @@
 #![tactic(auto)]
 
 ghost use Rattle.std.specs.Prelude.{◌≡◌, ◌≤◌};
+ghost use Rattle.replies.specs.Answers.{reply_of};
 ghost use Rattle.index_of_word.specs.Indexing.{word_refusal, indexing};
+ghost use Rattle.index_of_word.specs.Given.{indexed_of};
 ghost use Rattle.index_of_word.specs.Spans.{Span};
 ghost use Rattle.index_of_word.specs.Whole.{Indexable, with_index};
 
 use numbers::Index;
-use replies::{Profile, Reply};
+use replies::{Profile, Refusal, Reply, Why};
 
 mod stretch;
 
-// The answer: the reply, and the index, which is 0 where the call is refused.
+// The answer as C takes it: the reply, and the index, which is 0 where the call is refused.
 #[repr(C)]
 #[derive(Clone, Copy)]
 pub struct Indexed {
     pub reply: Reply,
     pub index: Index,
+}
+
+impl From<Result<Index, Refusal>> for Indexed {
+    ghost from_gives = { λ answer indexed. indexed ≡ indexed_of answer };
+
+    #[tactic(auto, unfolding(limbs::specs::Limbs::limbs_of))]
+    fn from(answer: Result<Index, Refusal>) -> Indexed {
+        Indexed {
+            reply: answer.into(),
+            index: answer.unwrap_or(Index([0; 10])),
+        }
+    }
 }
 
 // So many rows on, a row takes at most one limb more: N(r) is at most q^r, and 4^32, 8^21, 16^16 and
@@ -49,39 +63,24 @@ pub fn put_index(p: Profile, table: &[u64], n: usize, cells: &[u8], sum: &mut [u
 }
 
 // The tests, in the order of their numbers: profile, table, length, cells.
-fn refused_word(p: Profile, table: &[u64], cells: &[u8]) -> Reply
-    ensures { result ≡ word_refusal p table.now cells.now }
+#[tactic(auto, using(crate::specs::Answers::word_calls), unfolding(crate::specs::Indexing::word_refusal))]
+fn check_word(p: Profile, table: &[u64], cells: &[u8]) -> Result<(), Refusal>
+    ensures { reply_of result ≡ word_refusal p table.now cells.now }
 {
-    let profile = replies::refused_profile(p);
-    if profile.number != replies::DONE {
-        return profile;
-    }
-    let rows = tables::refused_table(p, table);
-    if rows.number != replies::DONE {
-        return rows;
-    }
-    let length = replies::refused_if(cells.len() != p.m, replies::INPUT_LENGTH);
-    if length.number != replies::DONE {
-        return length;
-    }
-    cells::refused_cells(p.q, p.x, cells)
+    replies::check_profile(p)?;
+    tables::check_table(p, table)?;
+    replies::refuse_if(cells.len() != p.m, Why::InputLength)?;
+    cells::check_cells(p.q, p.x, cells)
 }
 
 // The index of a word of the profile's code.
-pub fn index(p: Profile, table: &[u64], cells: &[u8]) -> Indexed
-    ensures { result ≡ indexing p table.now cells.now }
+#[tactic(auto, using(crate::specs::Answers::indexing_refused))]
+pub fn index(p: Profile, table: &[u64], cells: &[u8]) -> Result<Index, Refusal>
+    ensures { indexed_of result ≡ indexing p table.now cells.now }
 {
-    let mut sum = [0; 10];
-    let reply = refused_word(p, table, cells);
-    if reply.number != replies::DONE {
-        let none = Index(sum);
-        return Indexed { reply, index: none };
-    }
+    check_word(p, table, cells)?;
     let n = limbs::limbs_used(table, 10 * p.m, 10);
+    let mut sum = [0; 10];
     put_index(p, table, n, cells, &mut sum);
-    let index = Index(sum);
-    Indexed {
-        reply: replies::done(),
-        index,
-    }
+    Ok(Index(sum))
 }
