@@ -4,7 +4,8 @@ use script::{Case, show};
 pub fn published(case: &mut Case) {
     let answer = catalogue::published_profile(case.count());
     show::reply(answer);
-    for n in answer.map_or([0; 4], |row| [row.q, row.x, row.m, row.s]) {
+    let row = answer.unwrap_or_default();
+    for n in [row.q, row.x, row.m, row.s] {
         show::count(n);
     }
     show::end();
@@ -16,8 +17,8 @@ pub fn rate(case: &mut Case) {
     let table = case.table(&mut limbs);
     let answer = catalogue::rate_of_words(p, table, case.count());
     show::reply(answer);
-    for n in answer.map_or([0; 2], |rate| [rate.bits, rate.cells]) {
-        show::count(n);
-    }
+    let rate = answer.unwrap_or_default();
+    show::count(rate.bits);
+    show::count(rate.cells);
     show::end();
 }
