@@ -1,6 +1,6 @@
 -- A word that is not refused: its index may be written to the limbs in use of the table's last row, and fills ten limbs.
-use Rattle.std.specs.Prelude.{Ok, Err, ◌≡◌, refl, not, List, ◌∷◌, ◌++◌, ℕ, zero, suc, ◌+◌, ◌-◌, ◌*◌, ◌/◌, ◌%◌, ◌^◌, ◌≤◌, ◌<◌, eqb, length, take, drop, replicate}
-use Rattle.std.proofs.Common.{ap, sym, le_refl, le_trans, zero-add, div-lt_iff_lt-mul, pow-suc, suc-add, arith, length-take, eqb-true, eq-eqb, ne_eqb}
+use Rattle.std.specs.Prelude.{Ok, Err, ◌≡◌, refl, not, List, ◌∷◌, ◌++◌, ℕ, zero, suc, ◌+◌, ◌-◌, ◌*◌, ◌/◌, ◌%◌, ◌^◌, ◌≤◌, ◌<◌, eqb, take, drop, replicate}
+use Rattle.std.proofs.Common.{ap, sym, le_refl, le_trans, zero-add, div-lt_iff_lt-mul, pow-suc, suc-add, arith, length-take, eqb-true}
 use Rattle.std.proofs.Math.Nat.{min-le_left, lt_trans, pow-zero}
 use Rattle.std.proofs.Math.Arith.{lt-one}
 use Rattle.limbs.specs.Limbs.{base, limbs_of, holding, used, AllLimbs}
@@ -18,10 +18,9 @@ use Rattle.replies.specs.ReplyLaws.{test_failed, both_done, profile_in_range}
 use Rattle.replies.specs.Ranges.{Between, InRange}
 use Rattle.listing.proofs.Order.{index_below_count}
 use Rattle.code.specs.Code.{N, index}
-use Rattle.profiles.specs.Profiles.{is_legal, LegalFor, word_count, index_for, patterns_of}
-use Rattle.cells.specs.Finding.{cells_refusal}
+use Rattle.profiles.specs.Profiles.{is_legal, LegalFor, word_count, index_for}
 use Rattle.cells.specs.CellLaws.{cells_accepted}
-use Rattle.tables.specs.Tables.{Belongs, table_refusal}
+use Rattle.tables.specs.Tables.{Belongs}
 use Rattle.tables.specs.TableLaws.{not_wrong, table_belongs}
 use Rattle.index_of_word.specs.Indexing.{word_refusal, indexing}
 use Rattle.index_of_word.specs.Whole.{Indexable, with_index}

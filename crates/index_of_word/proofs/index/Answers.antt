@@ -5,7 +5,7 @@ use borrow.Author.Rules.{rules}
 use Rattle.index_of_word.specs.Answers.{word_passed, indexable, index_whole, indexing_done}
 use Rattle.index_of_word.proofs.index.Goals as goal
 
-pub overflow_mul-p : goal.overflow_mul-n
+pub overflow_mul-p : goal.overflow_mul-p
 overflow_mul-p c = omega (arith, (word_passed _ _ _ c.in_ok-check_word.ensures).range.length.most)
 
 pub limbs_used-n-requires : goal.limbs_used-n-requires
