@@ -1,136 +1,91 @@
 // What is told, as JSON: one object a call or file.
-use crate::telling;
-use crate::telling::{PAGE, Told, text};
+use crate::Job;
+use crate::telling::{PRINTED, Page};
 use command_line::Line;
-use replies::Reply;
+use replies::Refusal;
+use statuses::Status;
+use std::fmt::Display;
 use std::io::Print;
 use std::rt::Env;
 
-// The beginning of an object: the subcommand and the exit status.
-pub fn begin(rt: &(impl Env + Print), page: &mut [u8; PAGE], told: Told, status: u8) -> Told {
-    let mut name = io::buffer();
-    let n = command_line::word(rt, 0, &mut name);
-    let mut more = text(rt, page, told, b"{\"command\":\"");
-    more = text(rt, page, more, &name[..n]);
-    telling::counted(rt, page, more, b"\",\"status\":", status as usize)
-}
-
-// The end of an object.
-pub fn end(rt: &impl Print, page: &mut [u8; PAGE], told: Told) -> Told {
-    text(rt, page, told, b"}\n")
-}
-
-// A key, and what stands before its value.
-pub fn key(rt: &impl Print, page: &mut [u8; PAGE], told: Told, key: &[u8], before: &[u8]) -> Told {
-    let mut more = text(rt, page, told, b",\"");
-    more = text(rt, page, more, key);
-    more = text(rt, page, more, b"\":");
-    text(rt, page, more, before)
-}
-
-// A number.
-pub fn number(rt: &impl Print, page: &mut [u8; PAGE], told: Told, of: &[u8], n: usize) -> Told {
-    let more = key(rt, page, told, of, b"");
-    telling::number(rt, page, more, n)
-}
-
-// How much there is of a for each of b, with four places; null where there is no such figure.
-pub fn figure(
-    rt: &impl Print,
-    page: &mut [u8; PAGE],
-    told: Told,
-    of: &[u8],
-    a: usize,
-    b: usize,
-) -> Told {
-    let more = key(rt, page, told, of, b"");
-    telling::figure(rt, page, more, a, b, b"null")
-}
-
-// How long a file is; null where it is longer than any input.
-pub fn length(
-    rt: &impl Print,
-    page: &mut [u8; PAGE],
-    told: Told,
-    of: &[u8],
-    n: usize,
-    most: usize,
-) -> Told {
-    if most < n {
-        return key(rt, page, told, of, b"null");
+impl<R: Print> Page<'_, R> {
+    // A key, and a value that is printed as JSON has it.
+    pub fn field<D: Display + Drop>(&mut self, key: &str, value: D) {
+        write!(self, ",\"{key}\":{value}");
     }
-    number(rt, page, told, of, n)
-}
 
-// Whether it is so.
-pub fn truth(rt: &impl Print, page: &mut [u8; PAGE], told: Told, of: &[u8], is_so: bool) -> Told {
-    if is_so {
-        return key(rt, page, told, of, b"true");
+    // How much there is of a for each of b, with four places; null where there is no such figure.
+    pub fn figure_field(&mut self, key: &str, a: usize, b: usize) {
+        self.field(key, "");
+        self.figure(a, b, "null");
     }
-    key(rt, page, told, of, b"false")
-}
 
-// The name of a file as it is printed, quoted.
-pub fn name(rt: &impl Print, page: &mut [u8; PAGE], told: Told, of: &[u8], name: &[u8]) -> Told {
-    let mut printed = [0u8; telling::PRINTED];
-    let n = names::escape(name, &mut printed);
-    let mut quoted = [0u8; 2 * telling::PRINTED];
-    let k = names::quote(&printed[..n], &mut quoted);
-    let mut more = key(rt, page, told, of, b"\"");
-    more = text(rt, page, more, &quoted[..k]);
-    text(rt, page, more, b"\"")
-}
-
-// The file that word k names, where there is one.
-pub fn word(
-    rt: &(impl Env + Print),
-    page: &mut [u8; PAGE],
-    told: Told,
-    of: &[u8],
-    line: Line,
-    k: usize,
-) -> Told {
-    if line.count <= k {
-        return told;
+    // How long a file is; null where it is longer than any input.
+    pub fn length_field(&mut self, key: &str, n: usize, most: usize) {
+        if n <= most {
+            self.field(key, n);
+        } else {
+            self.field(key, "null");
+        }
     }
-    let mut file = io::buffer();
-    let n = command_line::word(rt, k, &mut file);
-    name(rt, page, told, of, &file[..n])
-}
 
-// The table that was lent, where there is one.
-pub fn table(rt: &(impl Env + Print), page: &mut [u8; PAGE], told: Told, line: Line) -> Told {
-    if line.table == 0 {
-        return told;
+    // The name of a file as it is printed, quoted.
+    pub fn name_field(&mut self, key: &str, name: &[u8]) {
+        let mut printed = [0u8; PRINTED];
+        let n = names::escape(name, &mut printed);
+        let mut quoted = [0u8; 2 * PRINTED];
+        let k = names::quote(&printed[..n], &mut quoted);
+        self.field(key, "\"");
+        self.bytes(&quoted[..k]);
+        write!(self, "\"");
     }
-    let mut file = io::buffer();
-    let n = command_line::arg(rt, line.table, &mut file);
-    name(rt, page, told, b"table", &file[..n])
-}
 
-// The beginning of the object of a call: its number and its place, and of a refusal what it says.
-pub fn reply(rt: &(impl Env + Print), page: &mut [u8; PAGE], told: Told, reply: Reply) -> Told {
-    let mut more = begin(rt, page, told, statuses::of_reply(reply));
-    more = number(rt, page, more, b"number", reply.number as usize);
-    more = number(rt, page, more, b"place", reply.place);
-    if reply.number == replies::DONE {
-        return more;
+    // The end of an object.
+    pub fn end_object(&mut self) {
+        writeln!(self, "}}");
     }
-    more = key(rt, page, more, b"told", b"\"");
-    more = telling::refusal(rt, page, more, reply);
-    text(rt, page, more, b"\"")
 }
 
-// The end of the object of a call that is done: the file that word k names, and the table. The exit status.
-pub fn done(
-    rt: &(impl Env + Print),
-    page: &mut [u8; PAGE],
-    told: Told,
-    line: Line,
-    k: usize,
-) -> u8 {
-    let mut more = word(rt, page, told, b"output", line, k);
-    more = table(rt, page, more, line);
-    more = end(rt, page, more);
-    telling::finish(rt, page, more, statuses::DONE)
+impl<R: Env + Print> Page<'_, R> {
+    // The beginning of an object: the subcommand and the exit status.
+    pub fn begin_object(&mut self, status: Status) {
+        let mut name = io::buffer();
+        write!(self, "{{\"command\":\"");
+        self.bytes(command_line::word(self.rt, 0, &mut name));
+        write!(self, "\",\"status\":{}", status.code());
+    }
+
+    // The beginning of the object of a call that is done: number 0, at place 0.
+    pub fn begin_done(&mut self) {
+        self.begin_object(Status::Done);
+        write!(self, ",\"number\":0,\"place\":0");
+    }
+
+    // The beginning of the object of a call that is refused: its number, its place, and what it says.
+    pub fn begin_refused(&mut self, refusal: Refusal) {
+        self.begin_object(Status::Refused);
+        self.field("number", refusal.why.number());
+        self.field("place", refusal.place);
+        self.field("told", "\"");
+        self.refusal(refusal);
+        write!(self, "\"");
+    }
+
+    // The table that was lent, where there is one.
+    pub fn table_field(&mut self, line: Line) {
+        if let Some(i) = line.table {
+            let mut name = io::buffer();
+            self.name_field("table", command_line::arg(self.rt, i, &mut name));
+        }
+    }
+
+    // The end of the object of a call that is done: the file that was written, where one is named, and the table.
+    pub fn end_done(&mut self, job: Job) {
+        if let Some(k) = job.output {
+            let mut name = io::buffer();
+            self.name_field("output", command_line::word(self.rt, k, &mut name));
+        }
+        self.table_field(job.line);
+        self.end_object();
+    }
 }
