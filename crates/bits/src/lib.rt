@@ -105,8 +105,10 @@ pub fn put_number(number: &[u64], s: usize, out: &mut [u8], at: usize)
     requires { (10 ≤ length number.now) × (s ≤ 640) × (at + s ≤ 8 * length out.old) × (at + s < 2 ^ 32) }
     ensures { out.new ≡ with_bits at (bits_of s (number_at 10 number.now 0)) out.old }
 {
+    let mut done = 0;
     for i in (0..s.div_ceil(64)).rev() {
-        let k = (s - 64 * i).min(64);
-        put(number[i], k, out, at + s - 64 * i - k);
+        let k = s - done - 64 * i;
+        put(number[i], k, out, at + done);
+        done += k;
     }
 }
