@@ -11,7 +11,7 @@ ROOT = Path(__file__).resolve().parent.parent
 APART = r"\s(){}.;,@\"«»"
 MARKED = r"((?:(?:unfoldable|abbrev|axiom|pub) )*)"
 HEAD = re.compile(
-    r"^( *)pub (?:extern \"C\" )?fn (\w+)(?:<[^()]*>)?\(((?:[^()]|\([^()]*\))*)\)(?: -> ([^\n{]+?))?"
+    r"^( *)pub (?:extern \"C\" )?fn (\w+)(?:<(?:[^(){}]|\([^()]*\))*?>)?\(((?:[^()]|\([^()]*\))*)\)(?: -> ([^\n{]+?))?"
     r"(?: \{|\n((?: *(?:requires|ensures)(?: \w+)? \{.*\}\n)+) *\{|\nwhere\n(?: +[^\n]*,\n)+ *\{)$",
     re.M,
 )
