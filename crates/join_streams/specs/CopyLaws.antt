@@ -1,42 +1,28 @@
--- Laws of the loops that copy cells, as they stand and last first: what a turn writes, and what is left at the end.
-use Rattle.std.specs.Prelude.{◌≡◌, ℕ, suc, ◌+◌, ◌-◌, ◌≤◌, ◌<◌, length, take, drop, get_or, set}
-use Rattle.std.proofs.Common.{◌∙◌, add-one, arith, length-drop, drop-cons}
-use mathlib.Core.List.{List, ◌++◌, append_assoc, reverse-cons}
-use Rattle.std.proofs.lemmas.List.{length-reverse, set_at}
-use Rattle.std.proofs.Math.Seq.{take-length, drop-length, append_snoc, paste, paste-suc}
+-- Laws of cells written last first: what one more leaves, and what is left at the end.
+use Rattle.std.specs.Prelude.{◌≡◌, List, ◌++◌, ℕ, ◌+◌, ◌≤◌, ◌<◌, length, take, drop, get_or, set}
+use Rattle.std.specs.List.{enumerate_from}
+use Rattle.std.proofs.Common.{ap, ◌∙◌, zero-add, add-one, arith}
+use Rattle.std.proofs.lemmas.List.{length-reverse}
+use Rattle.std.proofs.lemmas.List.FromFn.{length-enumerate_from, get_or-enumerate_from}
+use Rattle.std.proofs.Math.Seq.{take-length, paste-suc}
 use Rattle.patterns.specs.Stream.{turned}
 
--- One cell more is copied in.
-pub copied_more : (from out : List ℕ) (at i : ℕ) {now : List ℕ} → i < length from → at + length from ≤ length out → now ≡ paste out at from i
-    → set now (at + i) (get_or from i 0) ≡ paste out at from (i + 1)
-copied_more from out at i more room e = rw (e, add-one) (paste-suc out at from i 0 (omega arith) more)
+-- The first i of the turned cells at the front of a lent list.
+abbrev pub TurnedTo : List ℕ → List ℕ → ℕ → List ℕ → Type 0
+TurnedTo cells lent i now = now ≡ take i (turned cells) ++ drop i lent
 
--- All are copied in.
-pub all_copied : (from out : List ℕ) (at i : ℕ) {now : List ℕ} → i ≡ length from → now ≡ paste out at from i
-    → now ≡ take at out ++ (from ++ drop (at + length from) out)
-all_copied from out at i end e = e ∙ rw (end, take-length, append_assoc)
-
--- The cells from `left` on, last first, in place of the first i of a lent list.
-abbrev pub turned_from : List ℕ → ℕ → ℕ → List ℕ → List ℕ
-turned_from cells left i lent = turned (drop left cells) ++ drop i lent
-
--- No cell is turned yet.
-pub none_turned : (cells lent : List ℕ) → lent ≡ turned_from cells (length cells) 0 lent
-none_turned cells lent = rw drop-length
-
--- One cell more is turned.
-pub turned_more : (cells lent : List ℕ) (left i : ℕ) {now : List ℕ} → 0 < left → i + left ≡ length cells → length cells ≤ length lent
-    → now ≡ turned_from cells left i lent → set now i (get_or cells (left - 1) 0) ≡ turned_from cells (left - 1) (i + 1) lent
-turned_more cells lent left i some all room e =
-    let back : suc (left - 1) ≡ left = omega arith in
-    let next = rw back at (drop-cons cells (left - 1) 0 (omega arith)) in
-    let over = drop-cons lent i 0 (omega arith) in
-    let front : length (turned (drop left cells)) ≡ i = rw (length-reverse, length-drop) (omega arith) in
-    rw (e, over, next, reverse-cons, append_snoc, add-one) (set_at (turned (drop left cells)) _ _ _ i front)
+-- One cell more is turned: the next with its place.
+pub turned_more : (cells lent : List ℕ) (n i cell : ℕ) {now : List ℕ} → length cells ≤ length lent → n < length (enumerate_from 0 (turned cells))
+    → (i, cell) ≡ get_or (enumerate_from 0 (turned cells)) n (i, cell) → TurnedTo cells lent n now → TurnedTo cells lent (n + 1) (set now i cell)
+turned_more cells lent n i cell room more item e =
+    let inside : n < length (turned cells) = omega (arith, length-enumerate_from 0 (turned cells)) in
+    let next = item ∙ get_or-enumerate_from 0 (turned cells) n (i, cell) inside in
+    let place = ap (λ (p : ℕ × ℕ). p.0) next in
+    let value = ap (λ (p : ℕ × ℕ). p.1) next in
+    let one = simp zero-add at (paste-suc lent 0 (turned cells) n cell (omega (arith, length-reverse cells)) inside) in
+    rw (e, place, value, zero-add, add-one) one
 
 -- All are turned.
-pub all_turned : (cells lent : List ℕ) (left i : ℕ) {now : List ℕ} → left ≡ 0 → i + left ≡ length cells → now ≡ turned_from cells left i lent
+pub all_turned : (cells lent : List ℕ) (n : ℕ) {now : List ℕ} → n ≡ length (enumerate_from 0 (turned cells)) → TurnedTo cells lent n now
     → now ≡ turned cells ++ drop (length cells) lent
-all_turned cells lent left i end all e =
-    let past : i ≡ length cells = omega arith in
-    e ∙ rw (end, past)
+all_turned cells lent n end e = e ∙ rw (end, length-enumerate_from 0 (turned cells), take-length, length-reverse cells)

@@ -1,7 +1,8 @@
 -- Laws of writing two streams joined: how long the joined stream is, and what copying both and writing the bridge leaves.
 use Rattle.std.specs.Prelude.{◌≡◌, Bool, true, false, cond, ◌||◌, ℕ, zero, suc, ◌+◌, ◌-◌, ◌≤◌, ◌<◌, eqb, length, take, drop, get_or}
 use Rattle.std.proofs.Math.Path.{refl, sym}
-use Rattle.std.proofs.Common.{◌∙◌, zero-add, length-append, length-drop, length-take-le, ne_eqb}
+use borrow.Rule.Slice.PartMut.{put_mid}
+use Rattle.std.proofs.Common.{◌∙◌, drop-drop, length-append, length-drop, length-take-le, ne_eqb}
 use mathlib.Core.List.{List, [], ◌∷◌, ◌++◌, append_assoc, append-nil}
 use native.Mathlib.Omega.{arith}
 use Rattle.std.proofs.lemmas.List.{length-replicate}
@@ -35,11 +36,6 @@ module _ (S : Patterns) where
   joined_length (c ∷ a) [] = omega (arith, none_between S.reach (length a))
   joined_length (c ∷ a) (d ∷ b) = rw some_between (simp (length-append, length-replicate) (omega arith))
 
-  -- So many are counted where so many cells stand between the two.
-  pub joined_count : (a b : List ℕ) {between : ℕ} → between ≡ cells_between S.reach (length a) (length b)
-      → length a + between + length b ≡ length (joined S a b)
-  joined_count a b e = rw (e, joined_length a b)
-
   -- Where there are cells between the two, both have cells; ..
   pub record Bridged (a b between : ℕ) : Type 0 where
     pub first : 0 < a
@@ -58,26 +54,40 @@ module _ (S : Patterns) where
   joined_apart (c ∷ a) [] some none = sym (append-nil (c ∷ a))
   joined_apart (c ∷ a) (d ∷ b) some none = absurd (omega (arith, some_between S.reach (length a) (length b)))
 
+  -- The second is written behind the first and the bridge.
+  pub behind_first : (a b : List ℕ) {count : ℕ} → count ≡ length (joined S a b) → count ≡ length a + cells_between S.reach (length a) (length b) + length b
+  behind_first a b e = e ∙ joined_length a b
+
   -- Both streams copied to the front of a lent list, so many cells apart as the bridge has.
-  module _ (a b lent : List ℕ) {between : ℕ} (apart : between ≡ cells_between S.reach (length a) (length b)) {one two : List ℕ}
-      (copied-first : one ≡ take 0 lent ++ (a ++ drop (0 + length a) lent))
-      (copied-second : two ≡ take (length a + between) one ++ (b ++ drop (length a + between + length b) one)) where
-    both_copied : two ≡ a ++ (take between (drop (length a) lent) ++ (b ++ drop (length a + between + length b) lent))
-    both_copied = copied-second ∙ cells_behind a b lent between (rw zero-add at copied-first)
+  module _ (a b lent : List ℕ) {count : ℕ} (same : count ≡ length (joined S a b)) {one two : List ℕ}
+      (copied-first : one ≡ a) (copied-second : two ≡ b) where
+    abbrev pub written : List ℕ
+    written = put_mid (count - length b) (count - (count - length b)) (one ++ drop (length a) lent) two
+
+    both_copied : written ≡ a ++ (take (cells_between S.reach (length a) (length b)) (drop (length a) lent) ++ (b ++ drop count lent))
+    both_copied =
+        let between = cells_between S.reach (length a) (length b) in
+        let all = behind_first a b same in
+        let behind : count - length b ≡ length a + between = omega arith in
+        let long : count - (length a + between) ≡ length b = omega arith in
+        rw (behind, long, copied-first, copied-second, drop-drop (length b) (length a + between) (a ++ drop (length a) lent), all)
+        (cells_behind a b lent between refl)
 
     -- Where there is no bridge, that is the joined stream.
-    pub without_bridge : 0 < S.reach → between ≡ 0 → two ≡ joined S a b ++ drop (length (joined S a b)) lent
+    pub without_bridge : 0 < S.reach → count - length b ≤ length a → written ≡ joined S a b ++ drop (length (joined S a b)) lent
     without_bridge some none =
-        both_copied ∙ rw (← joined_count a b apart, joined_apart a b some (sym apart ∙ none), append_assoc, none)
+        let all = behind_first a b same in
+        let gone : cells_between S.reach (length a) (length b) ≡ 0 = omega arith in
+        both_copied ∙ rw (same, joined_apart a b some gone, gone, append_assoc)
 
     -- Else the bridge is written, by the cells beside it.
-    pub with_bridge : (between ≡ 0 → ⊥) → length (joined S a b) ≤ length lent → {after : List ℕ}
-        → after ≡ take (length a) two ++ (bridge S (get_or two (length a - 1) 0) (get_or two (length a + S.reach) 0) ++ drop (length a + S.reach) two)
+    pub with_bridge : length a < count - length b → length (joined S a b) ≤ length lent → {after : List ℕ}
+        → after ≡ take (length a) written ++ (bridge S (get_or written (length a - 1) 0) (get_or written (length a + S.reach) 0) ++ drop (length a + S.reach) written)
         → after ≡ joined S a b ++ drop (length (joined S a b)) lent
     with_bridge some room e =
+        let all = behind_first a b same in
+        let between = cells_between S.reach (length a) (length b) in
         let gap = take between (drop (length a) lent) in
-        let rest = drop (length a + between + length b) lent in
-        let both = bridged (length a) (length b) apart some in
-        let long = joined_count a b apart in
+        let both = bridged (length a) (length b) refl (λ none. omega arith) in
         let wide : length gap ≡ between = length-take-le between (drop (length a) lent) (rw length-drop (omega arith)) in
-        rw both_copied at e ∙ bridge_between S a b gap rest both.first both.second (wide ∙ both.apart) ∙ rw long
+        rw both_copied at e ∙ bridge_between S a b gap (drop count lent) both.first both.second (wide ∙ both.apart) ∙ rw same

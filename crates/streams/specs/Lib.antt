@@ -11,3 +11,4 @@ pub mod EachLaws
 pub mod OrderLaws
 pub mod AcceptedLaws
 pub mod JoinedLaws
+pub mod CallLaws
