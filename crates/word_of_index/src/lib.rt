@@ -5,22 +5,22 @@
 ghost use Rattle.std.specs.Prelude.{◌≡◌, ◌++◌, ◌+◌, ◌-◌, ◌≤◌, ◌<◌, leb, length, take, drop};
 ghost use Rattle.limbs.specs.Limbs.{value, number_at, holding};
 ghost use Rattle.patterns.specs.Walk.{guard_after};
+ghost use Rattle.replies.specs.Answers.{reply_of, written_of};
 ghost use Rattle.replies.specs.Ranges.{InRange};
 ghost use Rattle.profiles.specs.Profiles.{patterns_of, word_count, word_for};
 ghost use Rattle.tables.specs.Tables.{Belongs};
 ghost use Rattle.word_of_index.specs.Spelling.{index_refusal, spelling};
 ghost use Rattle.word_of_index.specs.Tasks.{word_behind, weight_behind, low_cells, level_of, left_by, Task, SmallTask};
 
-use limbs::Order;
 use numbers::Index;
-use replies::{Profile, Reply, Written};
+use replies::{Profile, Refusal, Why};
 
 // How many of the i cells on the right of a cell below top have to be below top as well.
 fn low_cells(guard: usize, i: usize) -> usize
     requires { 1 ≤ guard }
     ensures { result ≡ low_cells guard i }
 {
-    if i < guard - 1 { i } else { guard - 1 }
+    i.min(guard - 1)
 }
 
 // Settles the leftmost of `left` cells in a guarded stretch, where its weight is an earlier row times
@@ -78,10 +78,7 @@ fn guard_behind(p: Profile, guard: usize, level: u64) -> usize
     if level == (p.q - 1) as u64 {
         return p.x + 1;
     }
-    if guard == 0 {
-        return 0;
-    }
-    guard - 1
+    guard.saturating_sub(1)
 }
 
 // The weight of the leftmost of `left` cells, where the counts fit one limb.
@@ -179,49 +176,29 @@ fn index_above(p: Profile, table: &[u64], index: &[u64]) -> bool
     requires { Belongs p p.m table.now × (length index.now ≡ 10) }
     ensures { result ≡ leb (word_count p) (value index.now) }
 {
-    match limbs::compare(index, 10, table, 10 * p.m) {
-        Order::Less => false,
-        Order::Equal => true,
-        Order::Greater => true,
-    }
+    limbs::compare(index, 10, table, 10 * p.m).is_ge()
 }
 
 // The lowest number that applies to what is handed in.
-fn refused_index(p: Profile, table: &[u64], i: Index, out: &[u8]) -> Reply
-    ensures { result ≡ index_refusal p table.now i out.now }
+#[tactic(auto, using(crate::specs::SpellingLaws::index_calls), unfolding(crate::specs::Spelling::index_refusal))]
+fn check_index(p: Profile, table: &[u64], i: Index, out: &[u8]) -> Result<(), Refusal>
+    ensures { reply_of result ≡ index_refusal p table.now i out.now }
 {
-    let profile = replies::refused_profile(p);
-    if profile.number != replies::DONE {
-        return profile;
-    }
-    let belonging = tables::refused_table(p, table);
-    if belonging.number != replies::DONE {
-        return belonging;
-    }
-    let room = replies::refused_room(p.m, out.len());
-    if room.number != replies::DONE {
-        return room;
-    }
+    replies::check_profile(p)?;
+    tables::check_table(p, table)?;
+    replies::check_room(p.m, out.len())?;
     let index = i.0;
-    replies::refused_if(index_above(p, table, &index), replies::NO_SUCH)
+    replies::refuse_if(index_above(p, table, &index), Why::NoSuch)
 }
 
 // Writes the m cells of the word of an index to the front of `out`.
-pub fn word(p: Profile, table: &[u64], i: Index, out: &mut [u8]) -> Written
-    ensures value { result ≡ (spelling p table.now i out.old).answer }
+#[tactic(auto, using(tables::specs::WritingLaws::refused_answer, tables::specs::WritingLaws::refused_lent), unfolding(crate::specs::Spelling::spelling))]
+pub fn word(p: Profile, table: &[u64], i: Index, out: &mut [u8]) -> Result<usize, Refusal>
+    ensures value { written_of result ≡ (spelling p table.now i out.old).answer }
     ensures out_after { out.new ≡ (spelling p table.now i out.old).lent }
 {
-    let refusal = refused_index(p, table, i, out);
-    if refusal.number != replies::DONE {
-        return Written {
-            reply: refusal,
-            count: 0,
-        };
-    }
+    check_index(p, table, i, out)?;
     let mut rest = i.0;
     spell(p, table, &mut rest, out, 0);
-    Written {
-        reply: replies::done(),
-        count: p.m,
-    }
+    Ok(p.m)
 }
