@@ -1,100 +1,78 @@
 // The subcommand list: every word of a small code.
-use command_line::Line;
-use commands::telling::{PAGE, Told, text};
-use commands::{json, refusals, telling};
-use parts::first_cells;
-use replies::{DONE, Profile, Reply};
+use commands::{Job, Outcome, Page};
+use replies::Profile;
+use statuses::Status;
 use std::io::Print;
 use std::rt::Env;
+use text::Writer;
 
-// Lists a small code. The exit status.
-pub fn list(
-    rt: &(impl Env + Print),
-    page: &mut [u8; PAGE],
-    told: Told,
-    line: Line,
-    p: Profile,
-) -> u8 {
-    let reply = replies::refused_profile(p);
-    if reply.number != DONE {
-        return refusals::plain(rt, page, told, line, reply);
-    }
+// Lists a small code.
+pub fn list<R: Env + Print>(page: &mut Page<R>, job: Job) -> Outcome {
+    let p = job.asked.profile;
+    replies::check_profile(p)?;
     let mut typed = [0u8; 12];
-    let end = text::line::put_profile(p, &mut typed);
-    let n = text::put(&mut typed, end, b"\n");
+    let mut line = Writer {
+        out: &mut typed,
+        at: 0,
+    };
+    line.put_profile(p);
+    line.put(b"\n");
     let mut listed = [0u8; code_as_text::MOST_BYTES];
-    let count = code_as_text::list(&typed[..n], &mut listed).count;
-    tell(rt, page, told, line, reply, first_cells(&listed, count))
+    let count = code_as_text::list(line.front(), &mut listed)?;
+    Ok(tell(page, job.line.json, parts::first(&listed, count)))
 }
 
 // Tells a listing, or that the code is too large. The exit status.
-fn tell(
-    rt: &(impl Env + Print),
-    page: &mut [u8; PAGE],
-    told: Told,
-    line: Line,
-    reply: Reply,
-    listed: &[u8],
-) -> u8 {
-    let mut more = told;
-    let mut status = statuses::DONE;
-    if text::same(listed, b"too many\n") {
-        status = statuses::REFUSED;
-    }
-    if !line.json {
-        more = text(rt, page, more, listed);
-    } else if status == statuses::DONE {
-        more = json::reply(rt, page, more, reply);
-        more = fields(rt, page, more, listed);
-        more = json::end(rt, page, more);
+fn tell<R: Env + Print>(page: &mut Page<R>, as_json: bool, listed: &[u8]) -> Status {
+    let too_many = listed == b"too many\n".as_slice();
+    let status = if too_many {
+        Status::Refused
     } else {
-        more = json::begin(rt, page, more, status);
-        more = json::key(rt, page, more, b"told", b"\"too many\"");
-        more = json::end(rt, page, more);
+        Status::Done
+    };
+    if !as_json {
+        page.bytes(listed);
+    } else if too_many {
+        page.begin_object(status);
+        page.field("told", "\"too many\"");
+        page.end_object();
+    } else {
+        page.begin_done();
+        fields(page, listed);
+        page.end_object();
     }
-    telling::finish(rt, page, more, status)
+    status
 }
 
 // What stands before field k of a listing: five of the first line; then three of each line, which begin
 // with field 5 in the first and with field 8 in each further one.
-fn before_field(rt: &impl Print, page: &mut [u8; PAGE], told: Told, k: usize) -> Told {
+fn before_field(k: usize) -> &'static str {
     match k {
-        0 => text(rt, page, told, b",\"q\":"),
-        1 => text(rt, page, told, b",\"m\":"),
-        2 => text(rt, page, told, b",\"x\":"),
-        3 => text(rt, page, told, b",\"words\":"),
-        4 => text(rt, page, told, b",\"bits\":"),
-        5 => text(rt, page, told, b",\"list\":[{\"index\":"),
-        6 => text(rt, page, told, b",\"levels\":["),
-        7 => text(rt, page, told, b"],\"message\":"),
-        _ => text(rt, page, told, b"},{\"index\":"),
+        0 => ",\"q\":",
+        1 => ",\"m\":",
+        2 => ",\"x\":",
+        3 => ",\"words\":",
+        4 => ",\"bits\":",
+        5 => ",\"list\":[{\"index\":",
+        6 => ",\"levels\":[",
+        7 => "],\"message\":",
+        _ => "},{\"index\":",
     }
-}
-
-// The field behind field k.
-fn next_field(k: usize) -> usize {
-    if 7 < k {
-        return 6;
-    }
-    k + 1
 }
 
 // A listing as the fields of an object. A hyphen stands for no message.
-fn fields(rt: &impl Print, page: &mut [u8; PAGE], told: Told, listed: &[u8]) -> Told {
-    let mut more = before_field(rt, page, told, 0);
+fn fields<R: Print>(page: &mut Page<R>, listed: &[u8]) {
     let mut k = 0;
-    let mut i = 1;
-    while i < listed.len() {
-        let b = listed[i - 1];
-        if (b == b' ') | (b == b'\n') {
-            k = next_field(k);
-            more = before_field(rt, page, more, k);
-        } else if b == b'-' {
-            more = text(rt, page, more, b"null");
-        } else {
-            more = text(rt, page, more, &[b]);
+    write!(page, "{}", before_field(k));
+    for byte in parts::first(listed, listed.len().saturating_sub(1)) {
+        match *byte {
+            b' ' | b'\n' => {
+                k = if k < 8 { k + 1 } else { 6 };
+                write!(page, "{}", before_field(k));
+            }
+            b'-' => write!(page, "null"),
+            digit => page.bytes(&[digit]),
         }
-        i += 1;
     }
-    text(rt, page, more, b"}]")
+    write!(page, "}}]");
 }
