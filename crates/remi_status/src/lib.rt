@@ -2,9 +2,10 @@
 // in words, with document 01's number and place, or as JSON; what is answered is the exit status.
 #![tactic(auto)]
 
-use command_line::{Asked, Command, Line, shape, wrong};
-use commands::telling::{PAGE, Told};
-use commands::{faults, refusals, telling};
+use command_line::{Command, Fault, Line, Misread, shape};
+use commands::{Host, Job, Outcome, Page};
+use files::Inputs;
+use statuses::Status;
 use std::io::{Input, Print};
 use std::os::fd::AsFd;
 use std::random::RandomSource;
@@ -17,94 +18,88 @@ pub fn remi_status<R: Files + Env + Input + Print + Clock + RandomSource>(rt: &R
 where
     R::File: AsFd,
 {
-    let mut page = [0u8; PAGE];
-    let line = command_line::started(rt);
-    let found = line.wrong;
-    if found.what != wrong::NOTHING {
-        return faults::tell(rt, &mut page, line, found);
-    }
-    if line.help {
-        return help_asked(rt, &mut page, line, 0);
-    }
-    if line.version {
-        return help::version(rt, &mut page);
-    }
-    if line.count == 0 {
-        return faults::tell(rt, &mut page, line, wrong::of(wrong::NO_SUBCOMMAND, 0));
-    }
-    subcommand(rt, &mut page, line, shape::command(rt, line, 0))
+    let mut page = Page::new(rt);
+    let status = match command_line::started(rt) {
+        Ok(line) => run(&mut page, line),
+        Err(Misread { line, fault }) => page.tell_fault(line, fault),
+    };
+    page.finish(status).code()
 }
 
-// Word k is no subcommand.
-fn no_subcommand(rt: &(impl Env + Print), page: &mut [u8; PAGE], line: Line, k: usize) -> u8 {
-    let found = wrong::of(wrong::OTHER_SUBCOMMAND, command_line::argument(rt, k));
-    faults::tell(rt, page, line, found)
+// Does what a command line asks for.
+fn run<R: Host>(page: &mut Page<R>, line: Line) -> Status {
+    let outcome = if line.help {
+        help_asked(page, line, 0)
+    } else if line.version {
+        Ok(help::version(page))
+    } else {
+        subcommand(page, line)
+    };
+    match outcome {
+        Ok(status) => status,
+        Err(fault) => page.tell_fault(line, fault),
+    }
+}
+
+// The subcommand that word k is.
+fn command<R: Env>(rt: &R, line: Line, k: usize) -> Result<Command, Fault> {
+    let i = command_line::argument(rt, k).ok_or(Fault::NoSubcommand)?;
+    shape::command(rt, line, k).ok_or(Fault::OtherSubcommand(i))
 }
 
 // Tells the use of the subcommand that word k is, or of the program where there is no such word.
-fn help_asked(rt: &(impl Env + Print), page: &mut [u8; PAGE], line: Line, k: usize) -> u8 {
+fn help_asked<R: Env + Print>(page: &mut Page<R>, line: Line, k: usize) -> Result<Status, Fault> {
     if line.count <= k {
-        return help::whole(rt, page);
+        return Ok(help::whole(page));
     }
-    let command = shape::command(rt, line, k);
-    match command {
-        Command::Other => no_subcommand(rt, page, line, k),
-        _ => help::one(rt, page, command),
-    }
+    Ok(help::one(page, command(page.rt, line, k)?))
 }
 
 // Runs a subcommand, if the options and the words are those that it takes.
-fn subcommand<R: Files + Env + Input + Print + Clock + RandomSource>(
-    rt: &R,
-    page: &mut [u8; PAGE],
-    line: Line,
-    command: Command,
-) -> u8
-where
-    R::File: AsFd,
-{
-    let of_options = shape::options(line, command);
-    match command {
-        Command::Other => return no_subcommand(rt, page, line, 0),
-        _ => {}
+fn subcommand<R: Host>(page: &mut Page<R>, line: Line) -> Result<Status, Fault> {
+    let command = command(page.rt, line, 0)?;
+    shape::options(line, command)?;
+    let named = command_line::asking(page.rt, line, command)?;
+    shape::words(page.rt, line, command, named.next)?;
+    if command == Command::Help {
+        return help_asked(page, line, 1);
     }
-    if of_options.what != wrong::NOTHING {
-        return faults::tell(rt, page, line, of_options);
+    let output = shape::output(command, named.next).filter(|k| *k < line.count);
+    // Standard output has the output alone where the output goes there.
+    if output.is_some_and(|k| command_line::is_word(page.rt, line, k, b"-")) {
+        page.to_standard_error();
     }
-    let asked = command_line::asking(rt, line, command);
-    let found = shape::words(rt, line, command, asked);
-    if found.what != wrong::NOTHING {
-        return faults::tell(rt, page, line, found);
+    let asked = match named.asked() {
+        Ok(asked) => asked,
+        Err(refusal) => {
+            // No table has been read.
+            let table = None;
+            return Ok(page.tell_refusal(Line { table, ..line }, refusal));
+        }
+    };
+    let inputs = Inputs::default();
+    let job = Job {
+        line,
+        asked,
+        output,
+        inputs,
+    };
+    match carry_out(page, job, command) {
+        Ok(status) => Ok(status),
+        Err(failure) => Ok(page.tell_failure(line, failure)),
     }
-    let told = telling::begin(rt, line, shape::output(command, asked));
-    let reply = asked.reply;
-    if reply.number != replies::DONE {
-        return refusals::row(rt, page, told, line, reply);
-    }
-    carry_out(rt, page, told, line, command, asked)
 }
 
 // Carries a subcommand out.
-fn carry_out<R: Files + Env + Input + Print + Clock + RandomSource>(
-    rt: &R,
-    page: &mut [u8; PAGE],
-    told: Told,
-    line: Line,
-    command: Command,
-    asked: Asked,
-) -> u8
-where
-    R::File: AsFd,
-{
+fn carry_out<R: Host>(page: &mut Page<R>, job: Job, command: Command) -> Outcome {
     match command {
-        Command::Check => commands_on_cells::check::check(rt, page, told, line, asked),
-        Command::Write => commands_on_cells::on_bits::write(rt, page, told, line, asked),
-        Command::Table => commands_on_profiles::table(rt, page, told, line, asked),
-        Command::Rate => commands_on_profiles::rate(rt, page, told, line, asked),
-        Command::Word => commands_on_profiles::word(rt, page, told, line, asked),
-        Command::Profiles => commands_on_profiles::profiles(rt, page, told, line),
-        Command::List => commands_on_profiles::lists::list(rt, page, told, line, asked.profile),
-        Command::Help => help_asked(rt, page, line, 1),
-        _ => commands_on_cells::run(rt, page, told, line, command, asked),
+        Command::Check => commands_on_cells::check::check(page, job),
+        Command::Write => commands_on_cells::on_bits::write(page, job),
+        Command::Table => commands_on_profiles::table(page, job),
+        Command::Rate => commands_on_profiles::rate(page, job),
+        Command::Word => commands_on_profiles::word(page, job),
+        Command::Profiles => commands_on_profiles::profiles(page, job),
+        Command::List => commands_on_profiles::lists::list(page, job),
+        _ => commands_on_cells::run(page, job, command),
     }
 }
