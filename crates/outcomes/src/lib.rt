@@ -21,6 +21,7 @@ const SHOWN: usize = 8;
 
 // Where a place of a stream lies: which word, or which word the bridge stands behind, counted from 0;
 // which cell of it; and the places of its first and last cell.
+// The definition `spot_of` names these fields.
 #[derive(Clone, Copy)]
 pub struct Spot {
     pub in_bridge: bool,
