@@ -1,7 +1,7 @@
 -- Guarded levels as one number: how large it is, and how it is read cell by cell.
-use Rattle.std.specs.Prelude.{◌≡◌, refl, Bool, true, false, cond, List, [], ◌∷◌, ℕ, suc, ◌+◌, ◌-◌, ◌*◌, ◌^◌, ◌≤◌, ◌<◌, ltb, length, take, drop, get_or}
-use Rattle.std.proofs.Common.{le_refl, le_trans, mul-le-mul, pow-suc, zero-add, add-zero, add-suc, suc-add, arith, lit<, length-take, drop-cons, lt-ltb, le-ltb, ltb-true, ltb-false}
-use Rattle.std.proofs.Math.Nat.{min-le_left, pow-zero, sub-zero, sub_self}
+use Rattle.std.specs.Prelude.{◌≡◌, refl, Bool, true, false, cond, List, [], ◌∷◌, ℕ, suc, ◌+◌, ◌*◌, ◌^◌, ◌≤◌, ◌<◌, ltb, length, take, drop, get_or, min}
+use Rattle.std.proofs.Common.{le_refl, le_trans, mul-le-mul, pow-suc, zero-add, add-zero, add-suc, suc-add, arith, lit<, length-take, drop-cons, drop_of_length-le, lt-ltb, le-ltb, ltb-true, ltb-false}
+use Rattle.std.proofs.Math.Nat.{min-le_left, pow-zero}
 use Rattle.std.proofs.Math.Arith.{digits_lt}
 use Rattle.listing.specs.Listing.{all_below}
 use Rattle.listing.proofs.Order.{first_below, rest_below}
@@ -14,6 +14,14 @@ cells_beyond {x} {left} l = rw (lt-ltb x left l)
 
 pub factor_beyond : (t : ℕ) {x left : ℕ} → x < left → t ≡ guarded_factor t x left
 factor_beyond t {x} {left} l = rw (lt-ltb x left l)
+
+-- The lesser of the two is how many.
+pub least_guarded : (x left : ℕ) → min x left ≡ guarded_cells x left
+least_guarded x left = go (ltb x left) refl
+  where
+    go : (b : Bool) → ltb x left ≡ b → min x left ≡ cond b x left
+    go true s = let l = ltb-true x left s in omega arith
+    go false s = let l = ltb-false x left s in omega arith
 
 -- Otherwise all are guarded, and the last weighs row 0, which is 1.
 pub cells_within : {x left : ℕ} → left ≤ x → left ≡ guarded_cells x left
@@ -88,24 +96,19 @@ digits_within t k w l h b =
     let p = power_within {k = length (take k w)} l (le_trans (rw length-take (min-le_left k (length w))) h) in
     omega arith
 
-module _ (t k at : ℕ) (cells : List ℕ) where
+module _ (t : ℕ) (cells : List ℕ) where
   -- Before the first.
-  pub reading_none : all_below t (take k (drop at cells)) ≡ true
-      → Reading t (digits t 0 (take k (drop at cells))) 0 0 (take (k - 0) (drop (at + 0) cells))
-  reading_none b = rw (sub-zero, add-zero) (record { low = b; bounded = rw pow-zero (lit< tt); same = refl })
+  pub reading_none : all_below t cells ≡ true → Reading t (digits t 0 cells) 0 0 cells
+  reading_none b = record { low = b; bounded = rw pow-zero (lit< tt); same = refl }
 
   -- One level more.
-  pub reading_more : {whole i s : ℕ} → i < k → at + k ≤ length cells → Reading t whole i s (take (k - i) (drop (at + i) cells))
-      → Reading t whole (i + 1) (s * t + get_or cells (at + i) 0) (take (k - (i + 1)) (drop (at + (i + 1)) cells))
-  reading_more {whole} {i} {s} l h r =
-      let one : k - i ≡ suc (k - (i + 1)) = omega arith in
-      let on : at + (i + 1) ≡ suc (at + i) = omega arith in
+  pub reading_more : {whole i s : ℕ} → i < length cells → Reading t whole i s (drop i cells)
+      → Reading t whole (i + 1) (s * t + get_or cells i 0) (drop (i + 1) cells)
+  reading_more {whole} {i} {s} l r =
       let next : i + 1 ≡ suc i = omega arith in
-      let within : at + i < length cells = omega arith in
-      let cons = rw (drop-cons cells (at + i) 0 within, one) at r in
-      rw (on, next) (rw next at (reading_cons cons))
+      rw next (reading_cons (rw (drop-cons cells i 0 l) at r))
 
   -- After the last.
-  pub reading_all : {whole s : ℕ} → Reading t whole k s (take (k - k) (drop (at + k) cells)) → s ≡ whole
+  pub reading_all : {whole i s : ℕ} → length cells ≤ i → Reading t whole i s (drop i cells) → s ≡ whole
   unfolding digits
-  reading_all r = rw sub_self at r.same
+  reading_all l r = rw (drop_of_length-le cells l) at r.same

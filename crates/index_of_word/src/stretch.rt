@@ -1,28 +1,19 @@
 // The walkers of a word: an open stretch hands over to a guarded one at each top, and a guarded one
 // becomes open behind its cells. Each counts how often its cells take a row: `counts[r]` goes with
 // row r.
-ghost use Rattle.std.specs.Prelude.{◌≡◌, suc, ◌*◌, ◌≤◌, length, take, drop};
-ghost use Rattle.index_of_word.specs.IndexBehind.{digits, guarded_cells, guarded_row, guarded_factor};
+ghost use Rattle.std.specs.Prelude.{◌≡◌, suc, ◌*◌, length};
+ghost use Rattle.index_of_word.specs.IndexBehind.{digits, guarded_row, guarded_factor};
 ghost use Rattle.index_of_word.specs.Levels.{GuardedRun};
 ghost use Rattle.index_of_word.specs.Counts.{Countable, Addable, RowsCounted, with_more};
 
-// How many of the `left` cells behind a top are guarded.
-fn guarded_cells(x: usize, left: usize) -> usize
-    ensures { result ≡ guarded_cells x left }
-{
-    if x < left { x } else { left }
-}
-
-// The levels of k guarded cells from `at` on, as one number.
-fn levels(top: u64, cells: &[u8], at: usize, k: usize) -> u64
-    requires { GuardedRun top k at cells.now }
-    ensures { result ≡ digits top 0 (take k (drop at cells.now)) }
+// The levels of guarded cells, as one number.
+fn levels(top: u64, cells: &[u8]) -> u64
+    requires { GuardedRun top (length cells.now) 0 cells.now }
+    ensures { result ≡ digits top 0 cells.now }
 {
     let mut number = 0;
-    let mut i = 0;
-    while i < k {
-        number = number * top + cells[at + i] as u64;
-        i += 1;
+    for level in cells {
+        number = number * top + *level as u64;
     }
     number
 }
@@ -40,45 +31,41 @@ fn add_guarded(top: u64, x: usize, left: usize, number: u64, counts: &mut [u64])
     }
 }
 
-// Counts the rows of the cells from `at` on where the stretch is open: cell by cell, up to the next
-// top, which hands over to a guarded stretch.
+// Counts the rows of cells where the stretch is open: cell by cell, up to the next top, which hands
+// over to a guarded stretch.
 #[cycle(guarded_stretch_open_stretch)]
-pub fn open_stretch(top: u64, x: usize, cells: &[u8], at: usize, counts: &mut [u64])
-    requires { (at ≤ length cells.now) × Countable top x 0 (drop at cells.now) counts.old }
-    ensures { RowsCounted top x 0 (drop at cells.now) counts.old counts.new }
+pub fn open_stretch(top: u64, x: usize, cells: &[u8], counts: &mut [u64])
+    requires { Countable top x 0 cells.now counts.old }
+    ensures { RowsCounted top x 0 cells.now counts.old counts.new }
 {
-    let mut i = at;
-    while i < cells.len() {
-        let level = cells[i] as u64;
-        let r = cells.len() - i - 1;
-        counts[r] += level;
-        i += 1;
+    for (i, cell) in cells.iter().enumerate() {
+        let level = *cell as u64;
+        counts[cells.len() - i - 1] += level;
         if level == top {
-            guarded_stretch(top, x, cells, i, counts);
+            guarded_stretch(top, x, &cells[i + 1..], counts);
             return;
         }
     }
 }
 
-// Counts the rows of the cells from `at` on just behind a top. Another top begins a guarded stretch of
-// its own; otherwise the guarded cells count as one number, and the stretch is open behind them.
+// Counts the rows of cells just behind a top. Another top begins a guarded stretch of its own;
+// otherwise the guarded cells count as one number, and the stretch is open behind them.
 #[cycle(guarded_stretch_open_stretch)]
-fn guarded_stretch(top: u64, x: usize, cells: &[u8], at: usize, counts: &mut [u64])
-    requires { (at ≤ length cells.now) × Countable top x (suc x) (drop at cells.now) counts.old }
-    ensures { RowsCounted top x (suc x) (drop at cells.now) counts.old counts.new }
+fn guarded_stretch(top: u64, x: usize, cells: &[u8], counts: &mut [u64])
+    requires { Countable top x (suc x) cells.now counts.old }
+    ensures { RowsCounted top x (suc x) cells.now counts.old counts.new }
 {
-    let left = cells.len() - at;
-    if left == 0 {
+    if cells.is_empty() {
         return;
     }
-    let k = guarded_cells(x, left);
-    if cells[at] as u64 == top {
+    let k = x.min(cells.len());
+    if cells[0] as u64 == top {
         let whole = tables::weights::power(top, k);
-        add_guarded(top, x, left, whole, counts);
-        guarded_stretch(top, x, cells, at + 1, counts);
+        add_guarded(top, x, cells.len(), whole, counts);
+        guarded_stretch(top, x, &cells[1..], counts);
     } else {
-        let number = levels(top, cells, at, k);
-        add_guarded(top, x, left, number, counts);
-        open_stretch(top, x, cells, at + k, counts);
+        let number = levels(top, &cells[..k]);
+        add_guarded(top, x, cells.len(), number, counts);
+        open_stretch(top, x, &cells[k..], counts);
     }
 }

@@ -1,14 +1,13 @@
 -- `index_of_word::put_index` meets its contract: a legal word begins with an open stretch, and its rows as they are counted there are its index.
 use mathlib.Core.Path.{◌≡◌, ◌∙◌}
 use mathlib.Core.List.{◌++◌}
-use native.Mathlib.Omega.{arith}
 use lib.ListN.{length, take, drop}
 use lib.Seq.{take_at}
 use Rattle.index_of_word.specs.Whole.{zeros, counts-length, countable, combinable, combined_index}
 use Rattle.index_of_word.proofs.put_index.Goals as goal
 
 pub open_stretch-requires : goal.open_stretch-requires
-open_stretch-requires c = (omega arith, countable c.requires)
+open_stretch-requires c = countable c.requires
 
 -- The counts come back as many as they were lent, and are lent again as they are.
 pub combine-requires : goal.combine-requires
