@@ -59,6 +59,8 @@ def words(text):
 
 def brought_by(line):
     """What a `use` line brings in: from each name to its module and its name there; nothing where the line has another form."""
+    if whole := re.fullmatch(r"(?:ghost )?use ([^{}\s]+)\.(\w+) as (\w+);?", line.strip()):
+        return {whole[3]: (whole[1], whole[2])}
     found = re.fullmatch(r"(?:ghost )?use ([^{}\s]+)\.\{([^{}]+)\};?", line.strip())
     if not found:
         return None
@@ -169,7 +171,7 @@ def types_in(path, text):
     for place, name in re.findall(r"((?:\w+::)*)\b([A-Z]\w*[a-z]\w*)\b", text):
         owner = (place.split("::")[:-1] or scope.get(name, ["crate"]))[0]
         folder = path.parent if owner in ("crate", "super") else ROOT / "crates" / owner / "src"
-        found = [file for file in sorted(folder.glob("*.rt")) if re.search(rf"\b(struct|enum) {name}\b", bare(file.read_text(), "//"))]
+        found = [file for file in sorted(folder.glob("*.rt")) if re.search(rf"\b(struct|enum|type|trait) {name}\b", bare(file.read_text(), "//"))]
         found = [path] if path in found else found
         if folder.is_dir() and len(found) != 1:
             sys.exit(f"{path.relative_to(ROOT)}: it is not plain which type {name} is")
@@ -177,9 +179,12 @@ def types_in(path, text):
 
 
 def types_held(path, name):
-    """The structs and enums that the fields of a struct in a source, or the variants of an enum, hold."""
-    text = re.search(rf"^(?:pub )?(?:struct|enum) {name}\b(\([^\n]*\);| \{{.*?^\}})", bare(path.read_text(), "//"), re.M | re.S)[1]
-    return set(types_in(path, re.sub(r"^ +[A-Z]\w*", "", text, flags=re.M)))
+    """The types that the fields of a struct in a source, or the variants of an enum, hold, or that an alias stands for; none for a trait."""
+    text = bare(path.read_text(), "//")
+    if alias := re.search(rf"^(?:pub )?type {name}\b[^=]*= (.*?);", text, re.M | re.S):
+        return set(types_in(path, alias[1]))
+    held = re.search(rf"^(?:pub )?(?:struct|enum) {name}\b(?:<[^{{(;]*>)?(\([^\n]*\);|;| \{{.*?^\}})", text, re.M | re.S)
+    return set(types_in(path, re.sub(r"^ +[A-Z]\w*", "", held[1], flags=re.M))) if held else set()
 
 
 def rows(page, heading):
