@@ -1,6 +1,6 @@
 -- Laws of a test throughout a stream: no word, the last word, or a word and the rest of the stream; and how far in a refusal lies.
-use Rattle.std.specs.Prelude.{◌≡◌, refl, Bool, true, false, cond, List, ℕ, zero, suc, ◌+◌, ◌≤◌, ◌<◌, length, drop}
-use Rattle.std.proofs.Common.{le_trans, zero-add, arith, length-take, length-drop}
+use Rattle.std.specs.Prelude.{◌≡◌, refl, Bool, true, false, cond, List, ℕ, zero, suc, ◌+◌, ◌-◌, ◌≤◌, ◌<◌, length, drop}
+use Rattle.std.proofs.Common.{subst, le_trans, zero-add, arith, length-take, length-drop}
 use Rattle.replies.specs.declared.Reply.{Reply}
 use Rattle.replies.specs.declared.Profile.{Profile}
 use Rattle.replies.specs.Replies.{done, is_done, refused, refused_from, refused_at_first, or_else, moved_by}
@@ -8,7 +8,8 @@ use Rattle.replies.specs.Ranges.{InRange}
 use Rattle.profiles.specs.Profiles.{stride, stream_length}
 use Rattle.cells.specs.Finding.{cell_refusal, pattern_refusal}
 use Rattle.streams.specs.Streams.{words_in, bridge_refusal, part_refusal, throughout}
-use Rattle.streams.specs.FitLaws.{no_word, rest_of}
+use Rattle.streams.specs.FitLaws.{no_word, words_of-length, length_step, rest_of}
+use Rattle.streams.specs.FromWords.{FromEach}
 
 module _ (p : Profile) (test : List ℕ → Reply) where
   -- A stream with no word has nothing to refuse.
@@ -59,3 +60,29 @@ part_place p part =
     else_place _ _ (le_trans (first_place _ _ 10) (omega (arith, length-take (stride p) part)))
     (else_place _ _ (le_trans (first_place _ _ 11) (omega (arith, length-take p.m part)))
     (moved_place p.m _ (le_trans (first_place _ _ 13) (omega (arith, length-take p.x (drop p.m part))))))
+
+-- What holds of the part from each word of a stream on holds of the stream, and of the part behind a word that is not the last.
+module _ (p : Profile) (part : List ℕ) (range : InRange p) (exact : length part ≡ stream_length p (words_in p (length part))) (fact : List ℕ → Type 0)
+    (each : FromEach p fact (words_in p (length part)) part) where
+  pub each_first : 0 < length part → fact part
+  each_first some = go (words_in p (length part)) exact each
+    where
+      go : (n : ℕ) → length part ≡ stream_length p n → FromEach p fact n part → fact part
+      go zero e f = absurd (omega arith)
+      go (suc n) e f = f.0
+
+  pub each_behind : p.m < length part → FromEach p fact (words_in p (length (drop (stride p) part))) (drop (stride p) part)
+  each_behind more = rw length-drop (go (words_in p (length part)) (rest_of p (length part) range exact more).words each)
+    where
+      go : (n : ℕ) → n ≡ suc (words_in p (length part - stride p)) → FromEach p fact n part
+          → FromEach p fact (words_in p (length part - stride p)) (drop (stride p) part)
+      go n e f = (subst (λ (k : ℕ). FromEach p fact k part) e f).1
+
+-- The part from each word on is a stream.
+pub each_exact : (p : Profile) → InRange p → (n : ℕ) (part : List ℕ) → length part ≡ stream_length p n
+    → FromEach p (λ t. length t ≡ stream_length p (words_in p (length t))) n part
+each_exact p range zero part e = tt
+each_exact p range (suc zero) part e = (rw (e, words_of-length p 1 range) refl, tt)
+each_exact p range (suc (suc n)) part e =
+    let step = length_step p n in
+    (rw (e, words_of-length p (suc (suc n)) range) refl, each_exact p range (suc n) (drop (stride p) part) (rw length-drop (omega arith)))

@@ -1,13 +1,15 @@
 // The tests that calls on streams share, and the bridge between two words.
 #![tactic(auto)]
 
-ghost use Rattle.std.specs.Prelude.{◌≡◌, true, ◌++◌, ◌+◌, ◌-◌, ◌^◌, ◌<◌, length, take, drop, get_or};
+ghost use Rattle.std.specs.Prelude.{◌≡◌, true, List, ℕ, ◌++◌, ◌+◌, ◌-◌, ◌^◌, ◌<◌, length, take, drop, get_or};
 ghost use Rattle.replies.specs.Answers.{reply_of};
 ghost use Rattle.replies.specs.Replies.{done};
 ghost use Rattle.replies.specs.Ranges.{InRange};
 ghost use Rattle.patterns.specs.Stream.{bridge};
 ghost use Rattle.profiles.specs.Profiles.{patterns_of, stride, stream_length};
 ghost use Rattle.streams.specs.Streams.{words_in, fit_refusal, both_fit_refusal, bridge_refusal, part_refusal, throughout, stream_refusal};
+ghost use Rattle.replies.specs.declared.Reply.{Reply};
+ghost use Rattle.streams.specs.FromWords.{FromEach};
 ghost use Rattle.streams.specs.FitLaws.{Fits};
 ghost use Rattle.streams.specs.UnfitLaws.{unfit};
 ghost use Rattle.streams.specs.BridgeLaws.{bridge_level, WrongAt};
@@ -114,22 +116,30 @@ fn check_part(p: Profile, part: &[u8]) -> Result<(), Refusal>
     check_bridge(p, part)
 }
 
-// Numbers 10, 11, 13 of the words from a place on: the cells after a word and its bridge are handed
-// on as the part that starts m + x cells in.
-#[tactic(auto, using(std::proofs::lemmas::List::take_rest, crate::specs::FitLaws::goes_on, crate::specs::PartLaws::part_place, crate::specs::PartLaws::rest_exact, crate::specs::PartLaws::throughout_none, crate::proofs::PartLaws::throughout_last, crate::proofs::PartLaws::throughout_step))]
-fn check_parts(p: Profile, part: &[u8], place: usize) -> Result<(), Refusal>
-    requires { InRange p × (length part.now ≡ stream_length p (words_in p (length part.now))) × (place + length part.now < 2 ^ 32) }
-    ensures { reply_of result ≡ throughout p (part_refusal p) (words_in p (length part.now)) place part.now }
+// What a test finds of the words from a place on, each with all that stands behind it: the lowest number that applies,
+// with the first place. The cells after a word and its bridge are handed on as the part that starts m + x cells in.
+#[tactic(auto, using(std::proofs::lemmas::List::take_rest, crate::specs::FitLaws::goes_on, crate::specs::PartLaws::rest_exact, crate::specs::PartLaws::throughout_none, crate::proofs::PartLaws::throughout_last, crate::proofs::PartLaws::throughout_step))]
+pub fn check_parts<F: Fn(&[u8]) -> Result<(), Refusal>>(
+    p: Profile,
+    part: &[u8],
+    place: usize,
+    test: &F,
+) -> Result<(), Refusal>
+    requires range { InRange p }
+    requires exact { length part.now ≡ stream_length p (words_in p (length part.now)) }
+    requires near { place + length part.now < 2 ^ 32 }
+    requires tested { FromEach p (λ t. (shown : _) → shown.now ≡ t → F.pre test.now shown × ((r : _) → F.post test.now shown r → (reply_of r).place < 2 ^ 32)) (words_in p (length part.now)) part.now }
+    ensures { (finds : List ℕ → Reply) → FromEach p (λ t. (shown : _) → shown.now ≡ t → (r : _) → F.post test.entry.now shown r → reply_of r ≡ finds t) (words_in p (length part.now)) part.now → reply_of result ≡ throughout p finds (words_in p (length part.now)) place part.now }
 {
     if part.is_empty() {
         return Ok(());
     }
-    let here = replies::moved_by(place, check_part(p, part));
+    let here = replies::moved_by(place, test(part));
     if part.len() <= p.m {
         return here;
     }
     let next = p.m + p.x;
-    replies::lowest(here, check_parts(p, &part[next..], place + next))
+    replies::lowest(here, check_parts(p, &part[next..], place + next, test))
 }
 
 // Each bridge of a stream is right.
@@ -164,7 +174,7 @@ pub fn check_stream(p: Profile, cells: &[u8]) -> Result<(), Refusal>
     if in_order(p, cells) {
         return Ok(());
     }
-    check_parts(p, cells, 0)
+    check_parts(p, cells, 0, &|part: &[u8]| check_part(p, part))
 }
 
 // Writes the bridge of x cells from `at` on, between the words that stand there.

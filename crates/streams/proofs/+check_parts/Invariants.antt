@@ -4,4 +4,4 @@ use Rattle.streams.proofs.+check_parts.Given as goal
 
 -- The cells of the part.
 abbrev pub decreases-check_parts : goal.decreases-check_parts
-decreases-check_parts l = length l.part.now
+decreases-check_parts g l = length l.part.now
