@@ -17,6 +17,11 @@ pub refused_is : {A : Type 0} (answer : Result A Refusal) → is_err answer ≡ 
 refused_is (Ok found) = refl
 refused_is (Err r) = rw (not_done r.why)
 
+-- So a profile that is not refused is in range.
+pub accepted : (p : Profile) {A : Type 0} (answer : Result A Refusal) → reply_of answer ≡ profile_refusal p → is_err answer ≡ false → InRange p
+accepted p (Ok found) e none = profile_in_range p e refl
+accepted p (Err r) e none = absurd (true≢false none)
+
 -- A profile and a place that some stream of it may reach.
 pub record InStream (p : Profile) (place : ℕ) : Type 0 where
   pub range : InRange p

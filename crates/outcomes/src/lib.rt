@@ -151,6 +151,7 @@ pub fn around(cells: &[u8], place: usize, out: &mut [u8; 128]) -> usize
 
 // Where a place of a stream lies; none for a profile out of range, which no stream has, and for a place
 // that no stream reaches.
+#[tactic(auto, using(crate::specs::SpotLaws::accepted))]
 pub fn spot_of(p: Profile, place: usize) -> Option<Spot>
     ensures value { MatchOption result (nowhere ≡ spot_of p place) (λ spot. spot ≡ spot_of p place) }
     ensures variant { is_some result ≡ (is_done (profile_refusal p) && nat_lt place most_cells) }

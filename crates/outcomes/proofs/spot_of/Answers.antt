@@ -4,49 +4,13 @@ use Rattle.std.proofs.lemmas.Bool.Decides.{nat_tests}
 use Rattle.replies.specs.Answers.{reply_of}
 use Rattle.replies.specs.Ranges.{most_cells}
 use Rattle.replies.specs.Replies.{is_done}
-use Rattle.outcomes.specs.SpotLaws.{refused_is, spot_nowhere, in_stream, spot_found}
+use Rattle.outcomes.specs.SpotLaws.{refused_is, spot_nowhere, spot_found}
 use Rattle.outcomes.proofs.spot_of.Goals as goal
 
 pub returns-then-is_err-clause-value : goal.returns-then-is_err-clause-value
 returns-then-is_err-clause-value c =
     let test : (not (is_done (reply_of c.check_profile.result)) || leb most_cells c.args.place) ≡ true = rw (← refused_is c.check_profile.result, ← c.is_err.ensures.value) (grind (arith, nat_tests)) in
     spot_nowhere _ _ c.check_profile.ensures test
-
-pub overflow_add-word : goal.overflow_add-word
-overflow_add-word c =
-    let test : (not (is_done (reply_of c.check_profile.result)) || leb most_cells c.args.place) ≡ false = rw (← refused_is c.check_profile.result, ← c.is_err.ensures.value) (grind (arith, nat_tests)) in
-    let stream = in_stream _ _ c.check_profile.ensures test in
-    omega arith
-
-pub nonzero_div-word : goal.nonzero_div-word
-nonzero_div-word c =
-    let test : (not (is_done (reply_of c.check_profile.result)) || leb most_cells c.args.place) ≡ false = rw (← refused_is c.check_profile.result, ← c.is_err.ensures.value) (grind (arith, nat_tests)) in
-    let stream = in_stream _ _ c.check_profile.ensures test in
-    omega arith
-
-pub overflow_add-cell : goal.overflow_add-cell
-overflow_add-cell c =
-    let test : (not (is_done (reply_of c.check_profile.result)) || leb most_cells c.args.place) ≡ false = rw (← refused_is c.check_profile.result, ← c.is_err.ensures.value) (grind (arith, nat_tests)) in
-    let stream = in_stream _ _ c.check_profile.ensures test in
-    omega arith
-
-pub nonzero_rem-cell : goal.nonzero_rem-cell
-nonzero_rem-cell c =
-    let test : (not (is_done (reply_of c.check_profile.result)) || leb most_cells c.args.place) ≡ false = rw (← refused_is c.check_profile.result, ← c.is_err.ensures.value) (grind (arith, nat_tests)) in
-    let stream = in_stream _ _ c.check_profile.ensures test in
-    omega arith
-
-pub overflow_add-result-4 : goal.overflow_add-result-4
-overflow_add-result-4 c =
-    let test : (not (is_done (reply_of c.check_profile.result)) || leb most_cells c.args.place) ≡ false = rw (← refused_is c.check_profile.result, ← c.is_err.ensures.value) (grind (arith, nat_tests)) in
-    let stream = in_stream _ _ c.check_profile.ensures test in
-    omega arith
-
-pub overflow_sub-result-3 : goal.overflow_sub-result-3
-overflow_sub-result-3 c =
-    let test : (not (is_done (reply_of c.check_profile.result)) || leb most_cells c.args.place) ≡ false = rw (← refused_is c.check_profile.result, ← c.is_err.ensures.value) (grind (arith, nat_tests)) in
-    let stream = in_stream _ _ c.check_profile.ensures test in
-    omega arith
 
 pub returns-then-cell-p-clause-value : goal.returns-then-cell-p-clause-value
 returns-then-cell-p-clause-value c =
