@@ -1,30 +1,30 @@
 -- Laws of numbers 7, 8 and 9: what decides each, and what is known of bits that none of them refuses.
-use Rattle.std.specs.Prelude.{◌≡◌, refl, Bool, true, false, not, ◌&&◌, ◌||◌, List, ℕ, ◌+◌, ◌-◌, ◌*◌, ◌/◌, ◌%◌, ◌^◌, ◌≤◌, ◌<◌, ltb, leb, eqb, length, get_or, drop}
-use Rattle.std.proofs.Common.{sym, ap, ◌∙◌, add-zero, mul_comm, div-one, le_of_lt, le_trans, div-mul-le_self, mul-le-mul_left, mul-le-mul_right, arith, lit<, get_or-take, get_or-drop, below_more, lt-ltb, le-ltb, le-leb, eq-eqb, ne_eqb, eqb-true, ltb-false}
-use Rattle.std.proofs.Math.Bool.{or-true, and-false}
+use Rattle.std.specs.Prelude.{◌≡◌, refl, Bool, true, false, not, ◌&&◌, ◌||◌, Option, Some, None, List, ℕ, ◌-◌, ◌*◌, ◌/◌, ◌%◌, ◌^◌, ◌≤◌, ◌<◌, ltb, leb, eqb, length, get_or, drop}
+use Rattle.std.proofs.Common.{sym, ap, ◌∙◌, add-zero, mul_comm, div-one, le_of_lt, le_trans, div-mul-le_self, mul-le-mul_left, mul-le-mul_right, arith, lit<, get_or-take, get_or-drop, le-leb, leb-true, eq-eqb, ne_eqb, eqb-true, ltb-false}
 use Rattle.std.proofs.Math.Nat.{div-le_of_le-mul}
-use Rattle.std.proofs.lemmas.Bool.{lt-leb, not-false}
+use Rattle.std.proofs.lemmas.Bool.{not-false}
+use Rattle.std.specs.Int.{div_ceil}
+use Rattle.std.specs.Option.{MatchOption}
 use Rattle.replies.specs.declared.Reply.{Reply}
 use Rattle.replies.specs.declared.Profile.{Profile}
-use Rattle.replies.specs.Replies.{done, refused, refused_if, room_refusal}
+use Rattle.replies.specs.Replies.{done, refused, refused_if, refused_at_first}
 use Rattle.replies.specs.ReplyLaws.{both_done, test_failed, has_room, first_refused, none_refused}
-use Rattle.profiles.specs.Profiles.{length_of, stream_length}
+use Rattle.profiles.specs.Profiles.{length_of}
 use Rattle.bits.specs.Bits.{bits_of, bits_of_bytes, bytes_for}
 use Rattle.bits.specs.PieceLaws.{piece_of_bytes}
 use Rattle.streams.specs.FitLaws.{neither}
-use Rattle.write_stream.specs.Writing.{count_refusal, behind_refusal, messages_held}
+use Rattle.write_stream.specs.Writing.{count_refusal, behind_refusal}
 use Rattle.write_stream.specs.Steps.{bits_refusal, Fitting}
 
--- 7 is given above 256 messages, ..
-pub count_over : (p : Profile) (bytes : List ℕ) (bits : ℕ) {s : ℕ} → s ≡ length_of p → 256 * s < bits → refused 7 0 ≡ count_refusal p bytes bits
-unfolding count_refusal
-count_over p bytes bits e over = rw (lt-ltb (256 * length_of p) bits (rw e at over), or-true)
+-- The bytes that bits take.
+pub bytes_taken : (bits : ℕ) → div_ceil bits 8 ≡ bytes_for bits
+bytes_taken bits = omega arith
 
--- .. and up to them where the count is no multiple of s or the bytes are not all there.
-pub count_within : (p : Profile) (bytes : List ℕ) (bits : ℕ) {s : ℕ} → s ≡ length_of p → bits ≤ 256 * s
-    → refused_if (not (eqb (bits % s) 0) || ltb (length bytes) (bytes_for bits)) 7 ≡ count_refusal p bytes bits
+-- 7 is given where the count is no multiple of s, over 256 messages, or where the bytes are not all there.
+pub count_refused : (p : Profile) (bytes : List ℕ) (bits : ℕ) {s : ℕ} → s ≡ length_of p
+    → refused_if (not (eqb (bits % s) 0) || (ltb (256 * s) bits || ltb (length bytes) (div_ceil bits 8))) 7 ≡ count_refusal p bytes bits
 unfolding count_refusal
-count_within p bytes bits e within = rw (e, le-ltb (256 * length_of p) bits (rw e at within))
+count_refused p bytes bits e = rw (e, bytes_taken bits)
 
 -- A bit count that 7 does not refuse.
 pub record Counted (s bits bytes : ℕ) : Type 0 where
@@ -69,43 +69,41 @@ bit_read_lem bytes i inside =
     let place : 8 - i % 8 - 1 ≡ 7 - i % 8 = omega arith in
     sym here ∙ sym first ∙ ap (λ (l : List ℕ). get_or l 0 0) piece ∙ rw (div-one, place)
 
--- No message bit is behind the last one, ..
-pub none_behind_first : (bytes : List ℕ) (bits : ℕ) → NoneBehind bytes bits bits
-none_behind_first bytes bits k l = rw (lt-leb bits k l)
-
--- .. and one bit more that is not 1 changes nothing.
-pub none_behind_more : (bytes : List ℕ) (bits i : ℕ) → i / 8 < length bytes → NoneBehind bytes bits i → (bit_read bytes i ≡ 1 → ⊥) → NoneBehind bytes bits (i + 1)
-none_behind_more bytes bits i inside none not-one =
-    let here : behind bytes bits i ≡ false = rw (bit_read_lem bytes i inside, ne_eqb (bit_read bytes i) 1 not-one) (and-false (leb bits i)) in
-    below_more (λ (k : ℕ). behind bytes bits k ≡ false) i none here
-
--- 8 is given at the first bit behind that is 1, ..
-pub behind_refused : (bytes : List ℕ) (bits i : ℕ) → i / 8 < length bytes → NoneBehind bytes bits i → bits ≤ i → i < 8 * bytes_for bits → bit_read bytes i ≡ 1
-    → refused 8 i ≡ behind_refusal bytes bits
+-- 8 is given at the first bit behind that is 1, and not where there is none.
+pub behind_found : (bytes : List ℕ) (bits : ℕ) (found : Option ℕ) → bytes_for bits ≤ length bytes
+    → MatchOption found ((k : ℕ) → bits ≤ k → k < 8 * bytes_for bits → bit_read bytes k ≡ 1 → ⊥)
+    (λ i. (bits ≤ i) × (i < 8 * bytes_for bits) × (bit_read bytes i ≡ 1) × ((k : ℕ) → bits ≤ k → k < i → bit_read bytes k ≡ 1 → ⊥))
+    → MatchOption found (done ≡ behind_refusal bytes bits) (λ i. refused 8 i ≡ behind_refusal bytes bits)
 unfolding behind_refusal
-behind_refused bytes bits i inside none past below one =
-    let here : behind bytes bits i ≡ true = rw (le-leb bits i past, bit_read_lem bytes i inside) (eq-eqb (bit_read bytes i) 1 one) in
-    sym (first_refused (behind bytes bits) _ 8 i (λ k l. none k) here below)
+behind_found bytes bits found held = go found
+  where
+    none_before : (end : ℕ) → end ≤ 8 * bytes_for bits → ((k : ℕ) → bits ≤ k → k < end → bit_read bytes k ≡ 1 → ⊥) → NoneBehind bytes bits end
+    none_before end l none k h = at_most (leb bits k) refl
+      where
+        at_most : (b : Bool) → leb bits k ≡ b → behind bytes bits k ≡ false
+        at_most false e = rw e
+        at_most true e = rw (e, bit_read_lem bytes k (omega arith)) (ne_eqb (bit_read bytes k) 1 (λ one. none k (leb-true bits k e) h one))
 
--- .. and not where there is none.
-pub none_behind : (bytes : List ℕ) (bits : ℕ) → NoneBehind bytes bits (8 * bytes_for bits) → done ≡ behind_refusal bytes bits
-unfolding behind_refusal
-none_behind bytes bits none = sym (none_refused (behind bytes bits) _ 8 (λ k l. none k))
-
--- 9 is tested for the cells of as many words as there are messages.
-pub room_tested : (p : Profile) (bits lent : ℕ) {s cells : ℕ} {r : Reply} → s ≡ length_of p → cells ≡ stream_length p (bits / s) → r ≡ room_refusal cells lent
-    → r ≡ room_refusal (stream_length p (messages_held p bits)) lent
-room_tested p bits lent e f g = rw (← e, ← f) g
+    go : (found : Option ℕ) → MatchOption found ((k : ℕ) → bits ≤ k → k < 8 * bytes_for bits → bit_read bytes k ≡ 1 → ⊥)
+        (λ i. (bits ≤ i) × (i < 8 * bytes_for bits) × (bit_read bytes i ≡ 1) × ((k : ℕ) → bits ≤ k → k < i → bit_read bytes k ≡ 1 → ⊥))
+        → MatchOption found (done ≡ refused_at_first (behind bytes bits) (8 * bytes_for bits) 8) (λ i. refused 8 i ≡ refused_at_first (behind bytes bits) (8 * bytes_for bits) 8)
+    go None none = sym (none_refused (behind bytes bits) _ 8 (λ k l. none_before (8 * bytes_for bits) (omega arith) none k))
+    go (Some i) here =
+        let one : behind bytes bits i ≡ true = rw (le-leb bits i here.0, bit_read_lem bytes i (omega (arith, here.1))) (eq-eqb (bit_read bytes i) 1 here.2) in
+        sym (first_refused (behind bytes bits) _ 8 i (λ k l. none_before i (omega (arith, here.1)) here.3 k) one here.1)
 
 -- Bits that are not refused: 7 lets their count through, ..
-module _ (p : Profile) (bytes : List ℕ) (bits lent : ℕ) {s : ℕ} {r : Reply} (same : s ≡ length_of p) (tested : r ≡ bits_refusal p bytes bits lent) (none : r.number ≡ 0) where
+module _ (p : Profile) (bytes : List ℕ) (bits lent : ℕ) {s : ℕ} (same : s ≡ length_of p) (passed : done ≡ bits_refusal p bytes bits lent) where
+  none : (bits_refusal p bytes bits lent).number ≡ 0
+  none = sym (ap (λ (r : Reply). r.number) passed)
+
   pub bits_counted : Counted s bits (length bytes)
-  bits_counted = counted p bytes bits same refl (both_done _ _ (rw tested at none)).first
+  bits_counted = counted p bytes bits same refl (both_done _ _ none).first
 
   -- .. and their messages are few, the bytes hold them, and there is room.
   pub fitting : Fitting p s (bits / s) (length bytes) lent
   fitting =
-      let room = has_room _ _ (both_done _ _ (both_done _ _ (rw tested at none)).second).second in
+      let room = has_room _ _ (both_done _ _ (both_done _ _ none).second).second in
       record { few = few_words bits_counted; held = omega (arith, div-mul-le_self bits s, bits_counted.held); room = rw same room }
 
 -- Fewer of them fit too.

@@ -1,14 +1,15 @@
 -- Laws of writing a stream: each way out comes to the outcome that is promised.
-use Rattle.std.specs.Prelude.{◌≡◌, List, ℕ, ◌*◌, ◌/◌, ◌%◌, length}
+use Rattle.std.specs.Prelude.{◌≡◌, refl, Ok, List, ℕ, ◌*◌, ◌/◌, ◌%◌, length}
 use Rattle.std.proofs.Common.{div-add-mod', arith}
 use Rattle.messages.specs.Carrying.{carrying_refusal}
-use Rattle.replies.specs.declared.Reply.{Reply}
+use Rattle.messages.specs.CarryingLaws.{carries_messages}
 use Rattle.replies.specs.declared.Profile.{Profile}
 use Rattle.replies.specs.Replies.{done, Comes}
-use Rattle.replies.specs.ReplyLaws.{decides, leaves}
-use Rattle.replies.specs.WritingLaws.{writing_refused, writing_done}
+use Rattle.replies.specs.AnswerLaws.{passed_leaves}
+use Rattle.replies.specs.Answers.{written_of}
+use Rattle.replies.specs.WritingLaws.{writing_done}
 use Rattle.patterns.specs.Stream.{stream_of}
-use Rattle.profiles.specs.Profiles.{patterns_of, stream_length}
+use Rattle.profiles.specs.Profiles.{patterns_of, length_of, stream_length}
 use Rattle.bits.specs.Bits.{bits_of_bytes}
 use Rattle.write_stream.specs.Writing.{write_refusal, stream_written, writing_stream}
 use Rattle.write_stream.specs.Steps.{bits_refusal, carriers, with_stream, Ready}
@@ -24,24 +25,18 @@ written p bytes bits {s = s} ready whole =
     let messages = rw all at (messages_within s (bits / s) (bits_of_bytes bytes)) in
     rw (← ready.length, messages)
 
-module _ (p : Profile) (table bytes : List ℕ) (bits : ℕ) (lent : List ℕ) {first : Reply} (e : first ≡ carrying_refusal p table) where
-  -- Refused with 1 to 6: nothing is written.
-  pub refused_first : (first.number ≡ 0 → ⊥) → Comes (writing_stream p table bytes bits lent) (record { reply = first; count = 0 }) lent
-  unfolding writing_stream write_refusal
-  refused_first n = writing_refused _ _ _ _ lent (decides _ _ _ e n) n
+-- What is known once the tests of the table are passed.
+pub made_ready : (p : Profile) (table : List ℕ) {s : ℕ} → done ≡ carrying_refusal p table → s ≡ length_of p → Ready p table s
+made_ready p table e f = record { carrying = carries_messages p table e refl; length = f }
 
-  -- Refused with 7 to 9: nothing is written.
-  pub refused_then : first.number ≡ 0 → {r : Reply} → r ≡ bits_refusal p bytes bits (length lent) → (r.number ≡ 0 → ⊥)
-      → Comes (writing_stream p table bytes bits lent) (record { reply = r; count = 0 }) lent
-  unfolding writing_stream write_refusal
-  refused_then z f n = writing_refused _ _ _ _ lent (leaves _ _ _ _ e z f) n
-
+module _ (p : Profile) (table bytes : List ℕ) (bits : ℕ) (lent : List ℕ) where
   -- Done: the stream of the messages, from the front, and as many cells as it has.
-  pub stream_done : first.number ≡ 0 → {r : Reply} → r ≡ bits_refusal p bytes bits (length lent) → r.number ≡ 0 → {s count : ℕ} {after : List ℕ} → Ready p table s
+  pub stream_done : {s count : ℕ} {after : List ℕ} → done ≡ carrying_refusal p table → Ready p table s → done ≡ bits_refusal p bytes bits (length lent)
       → count ≡ stream_length p (bits / s) → after ≡ with_stream p s bytes (bits / s) lent
-      → Comes (writing_stream p table bytes bits lent) (record { reply = done; count = count }) after
-  unfolding writing_stream write_refusal
-  stream_done z f y {s} ready counts after =
-      let whole = written p bytes bits ready (bits_counted p bytes bits (length lent) ready.length f y).whole in
+      → Comes (writing_stream p table bytes bits lent) (written_of (Ok count)) after
+  unfolding writing_stream
+  stream_done {s} e ready f counts after =
+      let whole = written p bytes bits ready (bits_counted p bytes bits (length lent) ready.length f).whole in
       let long = length_written (bits / s) bytes (carries ready) in
-      writing_done _ _ _ _ lent (leaves _ _ _ _ e z f) y (rw (whole, long) counts) (rw (whole, long) after)
+      let all : done ≡ write_refusal p table bytes bits lent = unfold write_refusal in passed_leaves e f in
+      writing_done done _ _ _ lent all refl (rw (whole, long) counts) (rw (whole, long) after)
