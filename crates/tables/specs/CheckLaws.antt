@@ -1,13 +1,8 @@
 -- Laws of the check: how a row is compared with a number, and what a row that is found right or wrong says of the whole table.
-use Rattle.std.specs.Bool.{Decides}
-use Rattle.std.proofs.lemmas.Bool.Decides.{Decides-eqb}
-use Rattle.std.proofs.lemmas.Slice.Eq.{slice_eq-Decides}
-use Rattle.std.specs.Cmp.Lexicographic.{pointwise}
-use Rattle.std.specs.Prelude.{cond, ltb, ◌∷◌, [], ◌-◌, take, drop, ◌≡◌, Bool, true, false, not, List, ℕ, zero, suc, ◌+◌, ◌*◌, ◌≤◌, eqb, length}
-use Rattle.std.proofs.Math.Bool.{not-not}
-use Rattle.std.proofs.Common.{ltb-false, refl, true≢false, length-take, length-drop, get_or-drop, sym, ap, ◌∙◌, zero-le, arith, eqb-true, eq-eqb, ne_eqb}
-use Rattle.limbs.specs.Limbs.{AllLimbs, value, number_at}
-use Rattle.limbs.specs.ValueLaws.{base_positive, value_injective, value-limbs_of_below}
+use Rattle.std.specs.Prelude.{cond, ltb, ◌≡◌, Bool, true, false, List, ℕ, zero, suc, ◌+◌, ◌*◌, ◌≤◌, eqb, length, ◌/◌, ◌%◌, ◌^◌, ◌<◌, get_or}
+use Rattle.std.proofs.Common.{ltb-false, refl, sym, ap, ◌∙◌, zero-le, arith, eqb-true, eq-eqb, ne_eqb, ⊎_elim, le_of_eq, eq-or-lt_of_le, not-suc-le-zero, zero-add, mod-eq_of_lt, add-one}
+use Rattle.limbs.specs.Limbs.{AllLimbs, value, number_at, base}
+use Rattle.limbs.specs.ValueLaws.{value-limbs_of_below, power_positive, number_at_more, number_at_below}
 use Rattle.replies.specs.declared.Profile.{Profile}
 use Rattle.replies.specs.Replies.{done, refused, refused_if}
 use Rattle.replies.specs.declared.Refusal.{Refusal}
@@ -23,37 +18,45 @@ use Rattle.tables.specs.Tables.{table_length, Belongs, row_refusal, table_refusa
 use Rattle.tables.specs.TableLaws.{table_right, table_wrong, belongs_first, belongs_more}
 use Rattle.tables.specs.Counting.{one, Advanced}
 use Rattle.tables.specs.CountingLaws.{one_word, count_in_ten}
+use Rattle.std.proofs.Math.Nat.{add-mul-div_left, add-mul-mod_self_left, div-eq_of_lt}
+use Rattle.limbs.specs.HoldingLaws.{number_at_all}
 
--- The limbs of a row of a table are limbs.
-front_limbs : (n : ℕ) (l : List ℕ) → AllLimbs l → AllLimbs (take n l)
-front_limbs zero l all k = base_positive
-front_limbs (suc n) [] all k = all k
-front_limbs (suc n) (x ∷ xs) all zero = all 0
-front_limbs (suc n) (x ∷ xs) all (suc k) = front_limbs n xs (λ j. all (suc j)) k
+-- Two numbers of n limbs that are the same have the same limb at each place.
+same_limbs : (n : ℕ) (l : List ℕ) (at : ℕ) (r : List ℕ) (to : ℕ) → AllLimbs l → AllLimbs r → number_at n l at ≡ number_at n r to
+    → (k : ℕ) → k < n → get_or l (at + k) 0 ≡ get_or r (to + k) 0
+same_limbs zero l at r to all_l all_r same k inside = absurd (not-suc-le-zero inside)
+same_limbs (suc n) l at r to all_l all_r same k inside =
+    let split = sym (number_at_more n l at) ∙ same ∙ number_at_more n r to in
+    let small_l = number_at_below n l at all_l in
+    let small_r = number_at_below n r to all_r in
+    ⊎_elim
+    (λ (e : k ≡ n). rw e (sym (above_part _ small_l) ∙ ap (λ (v : ℕ). v / base ^ n) split ∙ above_part _ small_r))
+    (λ (less : k < n). same_limbs n l at r to all_l all_r (sym (below_part _ small_l) ∙ ap (λ (v : ℕ). v % base ^ n) split ∙ below_part _ small_r) k less)
+    (eq-or-lt_of_le {n = k} {m = n} (omega arith))
+  where
+    above_part : {low : ℕ} (limb : ℕ) → low < base ^ n → (low + base ^ n * limb) / base ^ n ≡ limb
+    above_part {low} limb small = rw (add-mul-div_left low limb (power_positive n), div-eq_of_lt small, zero-add)
 
-row_limbs : (at : ℕ) (table : List ℕ) → AllLimbs table → AllLimbs (take 10 (drop at table))
-row_limbs at table all = front_limbs 10 (drop at table) (λ k. rw get_or-drop (all (at + k)))
+    below_part : {low : ℕ} (limb : ℕ) → low < base ^ n → (low + base ^ n * limb) % base ^ n ≡ low
+    below_part {low} limb small = add-mul-mod_self_left low (base ^ n) limb ∙ mod-eq_of_lt small
 
--- A number of ten limbs is compared with row i.
-module _ (i : ℕ) (number table : List ℕ) {differs : Bool}
-    (compared : differs ≡ not (pointwise eqb number (take (10 * i + 10 - 10 * i) (drop (10 * i) table)))) where
-  same : Decides (not differs) (number ≡ take 10 (drop (10 * i) table))
-  same =
-      let ten : 10 * i + 10 - 10 * i ≡ 10 = omega arith in
-      slice_eq-Decides Decides-eqb _ _ _ (rw (compared, not-not) (rw ten))
+-- A number of ten limbs is compared with a row, from the lowest limb up.
+module _ (number table : List ℕ) (at : ℕ) where
+  -- Where limb k is the same, the first k + 1 limbs are.
+  pub limb_same : (k : ℕ) → number_at k number 0 ≡ number_at k table at → get_or number k 0 ≡ get_or table (at + k) 0
+      → number_at (k + 1) number 0 ≡ number_at (k + 1) table at
+  limb_same k same e = rw (add-one, number_at_more k number 0, zero-add, number_at_more k table at, same, e)
 
-  pub row_same : differs ≡ false → done ≡ row_refusal i (value number) table
-  unfolding number_at
-  row_same e = rw (same.0 (rw e)) (rw (eq-eqb (value (take 10 (drop (10 * i) table))) _ refl))
+  -- Where a limb differs, the row does not hold the number.
+  pub limb_differs : {k : ℕ} → length number ≡ 10 → AllLimbs number → AllLimbs table → k < 10 → (get_or number k 0 ≡ get_or table (at + k) 0 → ⊥)
+      → false ≡ eqb (number_at 10 table at) (value number)
+  limb_differs {k} ten all_n all_t inside other =
+      let whole = number_at_all 10 number (le_of_eq ten) in
+      rw (ne_eqb (number_at 10 table at) (value number) (λ e. other (rw zero-add at (same_limbs 10 number 0 table at all_n all_t (whole ∙ sym e) k inside))))
 
-  pub row_differs : length number ≡ 10 → table_length i ≤ length table → AllLimbs number → AllLimbs table → differs ≡ true
-      → refused 6 i ≡ row_refusal i (value number) table
-  unfolding number_at
-  row_differs ten long all_n all_t e =
-      let whole : length (take 10 (drop (10 * i) table)) ≡ 10 = rw (length-take, length-drop) (omega arith) in
-      let equal : number_at 10 table (10 * i) ≡ value number → ⊥ =
-      λ v. true≢false (sym (same.1 (value_injective _ _ all_n (row_limbs (10 * i) table all_t) (rw (ten, whole) refl) (sym v))) ∙ rw e refl) in
-      rw (ne_eqb (number_at 10 table (10 * i)) (value number) equal)
+  -- Where the ten limbs are the same, it does.
+  pub limbs_same : length number ≡ 10 → number_at 10 number 0 ≡ number_at 10 table at → true ≡ eqb (number_at 10 table at) (value number)
+  limbs_same ten same = rw (eq-eqb (number_at 10 table at) (value number) (sym same ∙ number_at_all 10 number (le_of_eq ten)))
 
 -- A row that is refused is wrong, and one that is not is right.
 row_found_wrong : (r : Refusal) (i v : ℕ) (table : List ℕ) → refusal_reply r ≡ row_refusal i v table

