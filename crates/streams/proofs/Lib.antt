@@ -5,3 +5,6 @@ pub mod EachLaws
 pub mod LowestFirst
 pub mod OrderLaws
 pub mod AcceptedLaws
+pub mod KeptBridgeLaws
+pub mod KeptOrderLaws
+pub mod KeptPartLaws
