@@ -46,7 +46,7 @@ fn kind_at(rt: &impl Env, i: usize, ended: bool) -> Kind {
 }
 
 // An argument is longer than any name.
-pub fn is_long(rt: &impl Env, i: usize) -> bool {
+pub(crate) fn is_long(rt: &impl Env, i: usize) -> bool {
     kind_at(rt, i, true) == Kind::Long
 }
 

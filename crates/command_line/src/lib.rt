@@ -126,7 +126,7 @@ const HIGHEST: usize = 0x8000_0000;
 
 // How many arguments there are, the program's own name among them. They are numbered without a gap, so each bit of
 // the number, the highest first, is set if there are as many arguments as the number has with that bit.
-pub fn arg_count(rt: &impl Env) -> usize {
+fn arg_count(rt: &impl Env) -> usize {
     let mut count: usize = 0;
     for k in 0..32u32 {
         let more = count.saturating_add(HIGHEST >> k);
@@ -143,7 +143,7 @@ pub fn argument(rt: &impl Env, k: usize) -> Option<usize> {
 }
 
 // Whether argument i is this text.
-pub fn is_text(rt: &impl Env, i: usize, text: &[u8]) -> bool {
+fn is_text(rt: &impl Env, i: usize, text: &[u8]) -> bool {
     let mut buf = io::buffer();
     arg(rt, i, &mut buf) == text
 }
