@@ -1,6 +1,6 @@
 -- Laws that stood in specs/CheckLaws, which no proof rests on now.
 use Rattle.std.specs.Prelude.{◌≡◌, Bool, true, false, not, List, ℕ, zero, suc, ◌+◌, ◌*◌, ◌/◌, ◌%◌, ◌^◌, ◌≤◌, ◌<◌, eqb, length, get_or}
-use Rattle.std.proofs.Common.{sym, ap, ◌∙◌, ⊎_elim, zero-le, le_of_eq, eq-or-lt_of_le, not-suc-le-zero, zero-add, mod-eq_of_lt, add-one, arith, eqb-true, eq-eqb, ne_eqb}
+use Rattle.std.proofs.Common.{sym, ap, ◌∙◌, ⊎_elim, zero-le, le_of_eq, eq-or-lt_of_le, not-suc-le-zero, zero-add, mod-eq_of_lt, arith, eqb-true, eq-eqb, ne_eqb}
 use Rattle.std.proofs.Math.Nat.{add-mul-div_left, add-mul-mod_self_left, div-eq_of_lt}
 use Rattle.limbs.specs.Limbs.{base, AllLimbs, value, number_at}
 use Rattle.limbs.specs.HoldingLaws.{number_at_all}
@@ -36,11 +36,6 @@ same_limbs (suc n) l at r to all_l all_r same k inside =
 
 -- A number of ten limbs is compared with a row, from the lowest limb up.
 module _ (number table : List ℕ) (at : ℕ) where
-  -- Where limb k is the same, the first k + 1 limbs are.
-  pub limb_same : (k : ℕ) → number_at k number 0 ≡ number_at k table at → get_or number k 0 ≡ get_or table (at + k) 0
-      → number_at (k + 1) number 0 ≡ number_at (k + 1) table at
-  limb_same k same e = rw (add-one, number_at_more k number 0, zero-add, number_at_more k table at, same, e)
-
   -- Where a limb differs, the row does not hold the number.
   pub limb_differs : {k : ℕ} → length number ≡ 10 → AllLimbs number → AllLimbs table → k < 10 → (get_or number k 0 ≡ get_or table (at + k) 0 → ⊥)
       → true ≡ not (eqb (number_at 10 table at) (value number))

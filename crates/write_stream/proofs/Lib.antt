@@ -1,0 +1,3 @@
+-- Laws that no contract cites.
+pub mod KeptRefusalLaws
+pub mod KeptWritingLaws
