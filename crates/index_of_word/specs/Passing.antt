@@ -1,10 +1,9 @@
 -- Past the cells of a word: the row that each kind of stretch counts leads on to what is left.
 use Rattle.std.specs.Prelude.{◌≡◌, true, List, ℕ, suc, ◌+◌, ◌-◌, ◌*◌, ◌^◌, ◌≤◌, ◌<◌, length, take, drop, get_or, min}
 use Rattle.std.proofs.Math.Seq.{take-length}
-use Rattle.std.proofs.Math.Nat.{sub-zero}
 use Rattle.std.proofs.lemmas.List.{length-take-le}
 use Rattle.tables.specs.PowerLaws.{power_within}
-use Rattle.std.proofs.Common.{◌∙◌, le_refl, le_trans, zero-add, add-one, sub-one, arith, length-drop, drop-cons, drop-drop}
+use Rattle.std.proofs.Common.{refl, ◌∙◌, le_refl, le_trans, zero-add, add-one, sub-one, arith, length-drop, drop-cons, drop-drop}
 use Rattle.listing.specs.Listing.{all_below}
 use Rattle.index_of_word.specs.IndexBehind.{digits, guarded_cells, guarded_row, guarded_factor, first_low}
 use Rattle.index_of_word.specs.Levels.{factor_small, times_within, Few, guarded_few, least_guarded, digits_within, GuardedRun}
@@ -66,55 +65,67 @@ module _ (t x : ℕ) (cells : List ℕ) (i : ℕ) (l : i < length cells) {counts
       (leads _ _ c (guarded_levels_part t x _ _ s.reach.least c.walks first) (omega arith)
       (rw (f, d, drop-cons cells i 0 l, cells_left cells i l) at few))
 
--- From the first of the cells just behind a top on.
-module _ (t x : ℕ) (cells : List ℕ) (some : 0 < length cells) {counts : List ℕ} (s : Countable t x (suc x) cells counts) {k : ℕ}
-    (e : k ≡ min x (length cells)) where
-  pub few_guarded : Few x (length cells) k
-  few_guarded = guarded_few s.reach.least some (e ∙ least_guarded x (length cells))
+-- From the cell at i on, just behind a top.
+module _ (t x : ℕ) (cells : List ℕ) (i : ℕ) (l : i < length cells) {counts : List ℕ} (s : Countable t x (suc x) (drop i cells) counts) {k : ℕ}
+    (e : k ≡ min x (length cells - i)) where
+  pub few_guarded : Few x (length cells - i) k
+  few_guarded = guarded_few s.reach.least (omega arith) (e ∙ least_guarded x (length cells - i))
 
   eight : k ≤ 8
   eight = le_trans few_guarded.most s.reach.most
 
-  guarded_now : k ≡ guarded_cells x (length cells - 0)
-  guarded_now = rw sub-zero (e ∙ least_guarded x (length cells))
+  inside_rows : guarded_row x (length cells - i) < length (drop i cells)
+  inside_rows = rw length-drop (omega arith)
 
   -- A top: its row may be counted, and leads on to what stands behind it.
   module _ {number : ℕ} (power : number ≡ t ^ k) where
     small_power : number ≤ 31 ^ 8
     small_power = rw power (power_within s.levels.most eight)
 
-    pub top_addable : Addable t x (length cells) number counts
-    top_addable = addable s (omega arith) small_power
+    pub top_addable : Addable t x (length cells - i) number counts
+    top_addable = addable s inside_rows small_power
 
-    pub past_first_top : {next : List ℕ} → get_or cells 0 0 ≡ t
-        → next ≡ with_more (guarded_row x (length cells)) (number * guarded_factor t x (length cells)) counts
-        → Leads t x (suc x) cells counts (suc x) (drop 1 cells) next
-    past_first_top top f = past_guarded_top t x cells 0 some top s guarded_now power small_power (rw sub-zero f)
+    pub past_first_top : {next : List ℕ} → get_or cells i 0 ≡ t
+        → next ≡ with_more (guarded_row x (length cells - i)) (number * guarded_factor t x (length cells - i)) counts
+        → Leads t x (suc x) (drop i cells) counts (suc x) (drop (i + 1) cells) next
+    past_first_top top f = past_guarded_top t x cells i l top s (e ∙ least_guarded x (length cells - i)) power small_power f
 
   -- Guarded cells, the first of them below top: they are read as one number, their row may be counted, and leads on to what stands behind them.
-  module _ (low : get_or cells 0 0 ≡ t → ⊥) where
-    all_low : all_below t (take k cells) ≡ true
-    all_low = guarded_all_low t x cells 0 k some low s few_guarded.most
+  module _ (low : get_or cells i 0 ≡ t → ⊥) where
+    abbrev run : List ℕ
+    run = take k (drop i cells)
 
-    long : length (take k cells) ≡ k
-    long = length-take-le k cells few_guarded.inside
+    all_low : all_below t run ≡ true
+    all_low = guarded_all_low t x cells i k l low s few_guarded.most
 
-    pub guarded_run : GuardedRun t (length (take k cells)) 0 (take k cells)
-    guarded_run = record {
+    cut : take (i + k - i) (drop i cells) ≡ run
+    cut = let many : i + k - i ≡ k = omega arith in rw many refl
+
+    long : length run ≡ k
+    long = length-take-le k (drop i cells) (rw length-drop few_guarded.inside)
+
+    run_guarded : GuardedRun t (length run) 0 run
+    run_guarded = record {
       small = s.levels.most;
       few = rw long eight;
       inside = rw zero-add (le_refl _);
       low = rw take-length all_low;
     }
 
-    module _ {number : ℕ} (read : number ≡ digits t 0 (take k cells)) where
-      small_number : number ≤ 31 ^ 8
-      small_number = rw read (digits_within t k cells s.levels.most eight all_low)
+    pub guarded_run : GuardedRun t (length (take (i + k - i) (drop i cells))) 0 (take (i + k - i) (drop i cells))
+    guarded_run = rw cut run_guarded
 
-      pub guarded_addable : Addable t x (length cells) number counts
-      guarded_addable = addable s (omega arith) small_number
+    module _ {number : ℕ} (read : number ≡ digits t 0 (take (i + k - i) (drop i cells))) where
+      read_run : number ≡ digits t 0 run
+      read_run = rw cut at read
+
+      small_number : number ≤ 31 ^ 8
+      small_number = rw read_run (digits_within t k (drop i cells) s.levels.most eight all_low)
+
+      pub guarded_addable : Addable t x (length cells - i) number counts
+      guarded_addable = addable s inside_rows small_number
 
       pub past_first_guarded : {next : List ℕ}
-          → next ≡ with_more (guarded_row x (length cells)) (number * guarded_factor t x (length cells)) counts
-          → Leads t x (suc x) cells counts 0 (drop k cells) next
-      past_first_guarded {next} f = rw zero-add at (past_guarded t x cells 0 some {next = next} low s guarded_now read small_number (rw sub-zero f))
+          → next ≡ with_more (guarded_row x (length cells - i)) (number * guarded_factor t x (length cells - i)) counts
+          → Leads t x (suc x) (drop i cells) counts 0 (drop (i + k) cells) next
+      past_first_guarded f = past_guarded t x cells i l low s (e ∙ least_guarded x (length cells - i)) read_run small_number f

@@ -58,7 +58,7 @@ pub fn put_index(p: Profile, table: &[u64], n: usize, cells: &[u8], sum: &mut [u
 {
     let mut counts = [0; 128];
     let m = cells.len();
-    stretch::open_stretch((p.q - 1) as u64, p.x, cells, &mut counts[..m]);
+    stretch::open_stretch((p.q - 1) as u64, p.x, cells, 0, &mut counts[..m]);
     combining::combine(table, &counts[..m], n, span(p.q), sum);
 }
 

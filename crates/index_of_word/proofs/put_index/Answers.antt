@@ -1,4 +1,5 @@
 -- `index_of_word::put_index` meets its contract: a legal word begins with an open stretch, and its rows as they are counted there are its index.
+use native.Mathlib.Omega.{arith}
 use mathlib.Core.Path.{◌≡◌, ◌∙◌}
 use mathlib.Core.List.{◌++◌}
 use lib.ListN.{length, take, drop}
@@ -7,7 +8,7 @@ use Rattle.index_of_word.specs.Whole.{zeros, counts-length, countable, combinabl
 use Rattle.index_of_word.proofs.put_index.Goals as goal
 
 pub open_stretch-requires : goal.open_stretch-requires
-open_stretch-requires c = countable c.requires
+open_stretch-requires c = (omega arith, countable c.requires)
 
 -- The counts come back as many as they were lent, and are lent again as they are.
 pub combine-requires : goal.combine-requires
