@@ -54,7 +54,8 @@ pub fn rmdir(rt: &impl Files, path: &[u8]) -> io::Result<()> {
     rt.remove_dir(file_facts::path(path)?)
 }
 
-// Reads to the front of `buf` until it is full or the input ends. How many bytes that are.
+// Reads to the front of `buf` until it is full or the input ends. How many bytes that are, which `read_exact` of
+// std would not say.
 pub fn fill(input: &mut impl Read, buf: &mut [u8]) -> io::Result<usize>
     ensures { ReadsAtMost result buf.new }
 {
