@@ -1,13 +1,15 @@
 -- Laws of reading a stream: what each test lets through, and what is written where nothing is refused.
-use Rattle.std.specs.Prelude.{◌≡◌, refl, List, ℕ, ◌*◌, ◌≤◌, length}
+use Rattle.std.specs.Prelude.{◌≡◌, refl, Ok, List, ℕ, ◌*◌, ◌≤◌, length}
 use Rattle.std.proofs.Common.{◌∙◌, le_of_lt, mul-le-mul, arith}
 use Rattle.messages.specs.Carrying.{carrying_refusal, CarriesMessages}
 use Rattle.messages.specs.LengthLaws.{length_below}
 use Rattle.replies.specs.declared.Reply.{Reply}
 use Rattle.replies.specs.declared.Profile.{Profile}
 use Rattle.replies.specs.Replies.{done, or_else, room_refusal, Comes}
-use Rattle.replies.specs.ReplyLaws.{decides, leaves, both_done, has_room}
-use Rattle.replies.specs.WritingLaws.{writing_refused, writing_done}
+use Rattle.replies.specs.AnswerLaws.{passed_leaves}
+use Rattle.replies.specs.Answers.{written_of}
+use Rattle.replies.specs.ReplyLaws.{both_done, has_room}
+use Rattle.replies.specs.WritingLaws.{writing_done}
 use Rattle.profiles.specs.Profiles.{length_of}
 use Rattle.bits.specs.Bits.{bytes_for, with_bits}
 use Rattle.bits.specs.WithLaws.{length-packed_into, with_bits_front}
@@ -53,24 +55,14 @@ accepted {p} cells out ready e none =
       room = record { inside = omega arith; small = omega arith };
     }
 
--- A refusal writes nothing: one of profile or table, ..
-module _ (p : Profile) (table cells out : List ℕ) {handed : Reply} (e : handed ≡ carrying_refusal p table) where
-  pub reading_unready : (handed.number ≡ 0 → ⊥) → Comes (reading_stream p table cells out) (record { reply = handed; count = 0 }) out
-  unfolding reading_stream read_refusal
-  reading_unready n = writing_refused _ _ _ _ out (decides _ _ _ e n) n
-
-  -- .. or one of the stream.
-  pub reading_refused : {r : Reply} → handed.number ≡ 0 → r ≡ stream_read_refusal p cells (length out) → (r.number ≡ 0 → ⊥)
-      → Comes (reading_stream p table cells out) (record { reply = r; count = 0 }) out
-  unfolding reading_stream read_refusal
-  reading_refused z f n = writing_refused _ _ _ _ out (leaves _ _ _ _ e z f) n
-
-  -- Done writes the bits from the front.
-  pub reading_done : {r : Reply} {count : ℕ} {after : List ℕ} → handed.number ≡ 0 → r ≡ stream_read_refusal p cells (length out) → r.number ≡ 0
+-- Done writes the bits from the front.
+module _ (p : Profile) (table cells out : List ℕ) where
+  pub reading_done : {count : ℕ} {after : List ℕ} → done ≡ carrying_refusal p table → done ≡ stream_read_refusal p cells (length out)
       → count ≡ bits_in p (length cells) → after ≡ with_bits 0 (bits_read p cells) out
-      → Comes (reading_stream p table cells out) (record { reply = done; count = count }) after
-  unfolding reading_stream read_refusal
-  reading_done z f y c a =
+      → Comes (reading_stream p table cells out) (written_of (Ok count)) after
+  unfolding reading_stream
+  reading_done e f c a =
       let bits = bits_read p cells in
       let front = with_bits_front bits out in
-      writing_done _ _ _ _ out (leaves _ _ _ _ e z f) y c (rw (length-packed_into (bytes_for (length bits)) bits) (a ∙ front))
+      let all : done ≡ read_refusal p table cells out = unfold read_refusal in passed_leaves e f in
+      writing_done done _ _ _ out all refl c (rw (length-packed_into (bytes_for (length bits)) bits) (a ∙ front))

@@ -1,30 +1,13 @@
 -- Laws of numbers 14, 15 and 16: which of them decides, and at which place.
-use Rattle.std.specs.Prelude.{◌≡◌, refl, Bool, true, false, List, ℕ, ◌-◌, ◌^◌, ltb, eqb}
-use Rattle.replies.specs.declared.Reply.{Reply}
+use Rattle.std.specs.Prelude.{◌≡◌, refl, Bool, true, false, List, ℕ, ◌-◌, ◌^◌, ◌≤◌, ltb, eqb, length, take}
 use Rattle.replies.specs.declared.Profile.{Profile}
 use Rattle.replies.specs.Replies.{refused_if, or_else}
-use Rattle.replies.specs.ReplyLaws.{decides, leaves}
+use Rattle.std.proofs.Common.{sym, ◌∙◌, arith, length-take}
+use Rattle.replies.specs.AnswerLaws.{refusal_decides, passed_leaves}
 use Rattle.listing.specs.Every.{every}
-use Rattle.listing.specs.Listing.{before}
 use Rattle.profiles.specs.Profiles.{length_of, LegalFor, index_for}
 use Rattle.read_stream.specs.Reading.{silent_refusal}
-use Rattle.read_stream.specs.LimitLaws.{Limits, limit_tells}
-
--- A legal word, and the reply of the test for all 0: the first test that refuses decides.
-module _ {p : Profile} {limit w : List ℕ} (limits : Limits p limit) (word : LegalFor p w) {zeros : Reply}
-    (e : zeros ≡ refused_if (every (λ c. eqb c 0) w) 14) where
-  pub zeros_decide : (zeros.number ≡ 0 → ⊥) → zeros ≡ silent_refusal p w
-  unfolding silent_refusal
-  zeros_decide n = decides zeros _ _ e n
-
-  pub above_decides : {above : Reply} → zeros.number ≡ 0 → above ≡ refused_if (before limit w) 15 → (above.number ≡ 0 → ⊥) → above ≡ silent_refusal p w
-  unfolding silent_refusal
-  above_decides {above} z f n = leaves zeros above _ _ e z (decides above _ _ (rw (limit_tells w limits word) at f) n)
-
-  pub tops_decide : {above tops : Reply} → zeros.number ≡ 0 → above ≡ refused_if (before limit w) 15 → above.number ≡ 0
-      → tops ≡ refused_if (every (λ c. eqb c (p.q - 1)) w) 16 → tops ≡ silent_refusal p w
-  unfolding silent_refusal
-  tops_decide {above} {tops} z f y g = leaves zeros tops _ _ e z (leaves above tops _ _ (rw (limit_tells w limits word) at f) y g)
+use Rattle.read_stream.specs.LimitLaws.{Limits, limit-length, limit_tells}
 
 -- Each is given at the word's first cell.
 pub silent_place : (p : Profile) (w : List ℕ) → (silent_refusal p w).place ≡ 0
@@ -36,3 +19,14 @@ silent_place p w = go (every (λ c. eqb c 0) w) (ltb (2 ^ length_of p) (index_fo
     go false true c = refl
     go false false true = refl
     go false false false = refl
+
+-- A part that begins with a legal word has its cells.
+pub legal_inside : (p : Profile) (part : List ℕ) → LegalFor p (take p.m part) → p.m ≤ length part
+legal_inside p part legal = omega (arith, legal.cells, length-take p.m part)
+
+-- A limit is as long as a legal word.
+pub same_length : {p : Profile} (limit word : List ℕ) → Limits p limit → LegalFor p word → length limit ≡ length word
+same_length limit word limits legal = limit-length limits ∙ sym legal.cells
+
+-- What the tests of a word go by.
+pub ruleset silent_tests = (refusal_decides, passed_leaves, limit_tells, same_length)

@@ -1,30 +1,35 @@
--- A word from a cell on: whether all its cells pass a test, and which of two words stands before the other.
-use Rattle.std.specs.Prelude.{◌≡◌, Bool, true, false, List, ℕ, ◌+◌, ◌≤◌, ◌<◌, ltb, length, drop, get_or}
-use Rattle.std.proofs.Math.Bool.{or-false}
-use Rattle.std.proofs.Common.{le_refl, add-one, drop_of_length-le, drop-cons, eq-eqb, ne_eqb, le-ltb}
+-- Words as the library goes over them: whether all cells pass a test, and which of two words stands before the other.
+use Rattle.std.specs.Prelude.{◌≡◌, refl, Bool, true, false, ◌&&◌, ◌||◌, Some, List, [], ◌∷◌, ℕ, ltb, eqb, length}
+use Rattle.std.specs.Cmp.Lexicographic.{slice_partial_cmp}
+use Rattle.std.specs.List.{list_all}
+use Rattle.std.specs.Ordering.{nat_cmp, is_lt, is_some_and}
+use Rattle.std.proofs.Common.{ap, ◌∙◌, arith}
+use Rattle.std.proofs.lemmas.Bool.Decides.{nat_tests}
+use Rattle.std.proofs.lemmas.Cmp.{same_from_slice_cmp_tested}
 use Rattle.listing.specs.Every.{every}
 use Rattle.listing.specs.Listing.{before}
-use Rattle.listing.proofs.Order.{before_nil}
-use Rattle.listing.proofs.FirstCell.{before_cons}
 
-module _ (test : ℕ → Bool) (word : List ℕ) where
-  -- From a cell that passes on, as from the next on; from one that does not, not all pass; from behind the last, all do.
-  pub every_next : (i : ℕ) → i < length word → test (get_or word i 0) ≡ true → every test (drop (i + 1) word) ≡ every test (drop i word)
-  every_next i l e = rw (add-one, drop-cons word i 0 l, e)
+-- All cells pass a test where the library finds that each does.
+pub all_pass : (test : ℕ → Bool) (word : List ℕ) → list_all test word ≡ every test word
+all_pass test [] = refl
+all_pass test (c ∷ word) = ap (λ (b : Bool). test c && b) (all_pass test word)
 
-  pub every_not : (i : ℕ) → i < length word → test (get_or word i 0) ≡ false → every test (drop i word) ≡ false
-  every_not i l e = rw (drop-cons word i 0 l, e)
+-- The order of the library: the first cell that differs decides, and a word stands before a longer one that goes on from it.
+abbrev earlier : List ℕ → List ℕ → Bool
+earlier [] [] = false
+earlier [] (b ∷ w) = true
+earlier (a ∷ v) [] = false
+earlier (a ∷ v) (b ∷ w) = ltb a b || (eqb a b && earlier v w)
 
-  pub every_behind : (i : ℕ) → length word ≤ i → every test (drop i word) ≡ true
-  every_behind i l = rw (drop_of_length-le word l)
+earlier_before : (v w : List ℕ) → length v ≡ length w → earlier v w ≡ before v w
+unfolding before
+earlier_before [] [] e = refl
+earlier_before [] (b ∷ w) e = absurd (omega arith)
+earlier_before (a ∷ v) [] e = absurd (omega arith)
+earlier_before (a ∷ v) (b ∷ w) e = ap (λ (t : Bool). ltb a b || (eqb a b && t)) (earlier_before v w (omega arith))
 
-module _ (v w : List ℕ) where
-  -- From equal cells on, as from the next on; differing cells decide; behind the last cell neither stands before the other.
-  pub before_next : (i : ℕ) → i < length v → i < length w → get_or v i 0 ≡ get_or w i 0 → before (drop (i + 1) v) (drop (i + 1) w) ≡ before (drop i v) (drop i w)
-  before_next i l h e = rw (add-one, drop-cons v i 0 l, drop-cons w i 0 h, before_cons, eq-eqb _ _ e, e, le-ltb (get_or w i 0) (get_or w i 0) (le_refl _))
-
-  pub before_here : (i : ℕ) → i < length v → i < length w → (get_or v i 0 ≡ get_or w i 0 → ⊥) → before (drop i v) (drop i w) ≡ ltb (get_or v i 0) (get_or w i 0)
-  before_here i l h n = rw (drop-cons v i 0 l, drop-cons w i 0 h, before_cons, ne_eqb _ _ n) (or-false _)
-
-  pub before_behind : (i : ℕ) → length v ≤ i → before (drop i v) (drop i w) ≡ false
-  before_behind i l = rw (drop_of_length-le v l) (before_nil _)
+-- Of words of one length it is that of the words.
+pub library_order : (v w : List ℕ) (r : Bool) → length v ≡ length w → r ≡ is_some_and is_lt (slice_partial_cmp (λ x y. Some (nat_cmp x y)) v w) → r ≡ before v w
+library_order v w r e f =
+    let by = same_from_slice_cmp_tested nat_cmp is_lt earlier refl (λ _ _. refl) (λ _ _. refl) (λ x y xs ys o h. grind (arith, nat_tests)) in
+    by v w r f ∙ earlier_before v w e

@@ -1,30 +1,23 @@
 // The words that carry no message: all 0, an index above 2^s, all top. An index is not worked out to
 // test it: words are ordered as their indices are, so the levels are compared with the word of 2^s.
-ghost use Rattle.std.specs.Prelude.{◌≡◌, ◌++◌, ◌+◌, ◌^◌, ◌≤◌, ◌<◌, eqb, length, drop};
+ghost use Rattle.std.specs.Prelude.{◌≡◌, ◌++◌, ◌^◌, ◌≤◌, ◌<◌, eqb, length, drop};
 ghost use Rattle.messages.specs.Carrying.{CarriesMessages};
 ghost use Rattle.listing.specs.Every.{every};
 ghost use Rattle.listing.specs.Listing.{before};
+ghost use Rattle.replies.specs.Answers.{reply_of};
 ghost use Rattle.replies.specs.Ranges.{InRange};
 ghost use Rattle.profiles.specs.Profiles.{length_of, LegalFor};
-ghost use Rattle.streams.specs.Streams.{words_in, throughout};
-ghost use Rattle.read_stream.specs.Reading.{silent_refusal, silent_first};
+ghost use Rattle.read_stream.specs.Reading.{silent_refusal, silence_refusal};
 ghost use Rattle.read_stream.specs.LimitLaws.{limit_of, Limits};
 ghost use Rattle.read_stream.specs.TestLaws.{Testable};
 
-use replies::{Profile, Reply};
+use replies::{Profile, Refusal, Why};
 
 // Each cell of a word is at a level.
 fn all_at(level: u8, word: &[u8]) -> bool
     ensures { result ≡ every (λ c. eqb c level) word.now }
 {
-    let mut i = 0;
-    while i < word.len() {
-        if word[i] != level {
-            return false;
-        }
-        i += 1;
-    }
-    true
+    word.iter().all(|cell| *cell == level)
 }
 
 // A word stands before another of its length: the leftmost differing level decides.
@@ -32,16 +25,7 @@ fn stands_before(first: &[u8], second: &[u8]) -> bool
     requires { length first.now ≡ length second.now }
     ensures { result ≡ before first.now second.now }
 {
-    let mut i = 0;
-    while i < first.len() {
-        let a = first[i];
-        let b = second[i];
-        if a != b {
-            return a < b;
-        }
-        i += 1;
-    }
-    false
+    first < second
 }
 
 // Writes the word of the index 2^s to the front of `limit`.
@@ -56,36 +40,25 @@ pub fn spell_limit(p: Profile, table: &[u64], s: usize, limit: &mut [u8])
 
 // Numbers 14, 15, 16 of a legal word. A word of all top stands behind that of 2^s, so 15 is given
 // before 16 is tested.
-fn refused_silent(p: Profile, limit: &[u8], word: &[u8]) -> Reply
+#[tactic(auto, using(crate::specs::SilentLaws::silent_tests), unfolding(crate::specs::Reading::silent_refusal))]
+fn check_silent(p: Profile, limit: &[u8], word: &[u8]) -> Result<(), Refusal>
     requires { InRange p × Limits p limit.now × LegalFor p word.now }
-    ensures { result ≡ silent_refusal p word.now }
+    ensures { reply_of result ≡ silent_refusal p word.now }
 {
-    let zeros = replies::refused_if(all_at(0, word), replies::ALL_ZERO);
-    if zeros.number != replies::DONE {
-        return zeros;
-    }
-    let above = replies::refused_if(stands_before(limit, word), replies::INDEX_ABOVE);
-    if above.number != replies::DONE {
-        return above;
-    }
-    replies::refused_if(all_at((p.q - 1) as u8, word), replies::ALL_TOP)
+    replies::refuse_if(all_at(0, word), Why::AllZero)?;
+    replies::refuse_if(stands_before(limit, word), Why::IndexAbove)?;
+    replies::refuse_if(all_at((p.q - 1) as u8, word), Why::AllTop)
 }
 
-// The lowest of 14, 15, 16 that applies to the words from a place on: the cells after a word and its
-// bridge are handed on as the part that starts m + x cells in.
-pub fn refused_parts(p: Profile, limit: &[u8], part: &[u8], place: usize) -> Reply
-    requires { Testable p limit.now part.now × (place + length part.now < 2 ^ 32) }
-    ensures { result ≡ throughout p (silent_first p) (words_in p (length part.now)) place part.now }
+// The lowest of 14, 15, 16 that applies to the words of a stream.
+pub fn check_words(p: Profile, limit: &[u8], cells: &[u8]) -> Result<(), Refusal>
+    requires { Testable p limit.now cells.now × (length cells.now < 2 ^ 32) }
+    ensures { reply_of result ≡ silence_refusal p cells.now }
 {
-    if part.len() == 0 {
-        return replies::done();
-    }
-    let m = p.m;
-    let here = replies::moved_by(place, refused_silent(p, limit, &part[..m]));
-    if part.len() <= m {
-        return here;
-    }
-    let next = m + p.x;
-    let behind = refused_parts(p, limit, &part[next..], place + next);
-    replies::lowest(here, behind)
+    streams::check_parts(
+        p,
+        cells,
+        0,
+        &|part: &[u8]| check_silent(p, limit, &part[..p.m]),
+    )
 }
