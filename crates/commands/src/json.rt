@@ -14,7 +14,8 @@ impl<R: Print> Page<'_, R> {
         write!(self, ",\"{key}\":{value}");
     }
 
-    // How much there is of a for each of b, with four places; null where there is no such figure.
+    // How much there is of a for each of b, with four places; null where there is no such figure. Kept for what is still
+    // to be told.
     pub fn figure_field(&mut self, key: &str, a: usize, b: usize) {
         self.field(key, "");
         self.figure(a, b, "null");

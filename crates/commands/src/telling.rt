@@ -79,7 +79,7 @@ impl<'a, R: Print> Page<'a, R> {
         let _ = Write::write(self, text);
     }
 
-    // A number at the right end of a column.
+    // A number at the right end of a column. Like `figure`, kept for what is still to be told.
     pub fn column(&mut self, n: usize, width: usize) {
         write!(self, "{n:>width$}");
     }

@@ -13,7 +13,8 @@ use std::rt::{Clock, Env, Files};
 
 mod help;
 
-// Runs the program. The exit status: 0 done, 1 refused, 2 a wrong command line or trouble with a file.
+// Runs the program. The exit status: 0 done, 1 refused, 2 a wrong command line or trouble with a file. The bounds are
+// those of `Host`, spelt out as the pages have them.
 pub fn remi_status<R: Files + Env + Input + Print + Clock + RandomSource>(rt: &R) -> u8
 where
     R::File: AsFd,
