@@ -14,8 +14,8 @@ impl<R: Print> Page<'_, R> {
         write!(self, ",\"{key}\":{value}");
     }
 
-    // How much there is of a for each of b, with four places; null where there is no such figure. Kept for what is still
-    // to be told.
+    // How much there is of a for each of b, with four places; null where there is no such figure. No subcommand
+    // tells one yet.
     pub fn figure_field(&mut self, key: &str, a: usize, b: usize) {
         self.field(key, "");
         self.figure(a, b, "null");
@@ -64,7 +64,7 @@ impl<R: Env + Print> Page<'_, R> {
 
     // The beginning of the object of a call that is refused: its number, its place, and what it says.
     pub fn begin_refused(&mut self, refusal: Refusal) {
-        self.begin_object(Status::Refused);
+        self.begin_object(refusal.into());
         self.field("number", refusal.why.number());
         self.field("place", refusal.place);
         self.field("told", "\"");

@@ -1,9 +1,11 @@
 // What the subcommands read and lend to the calls, and what becomes of an output.
-use crate::{Host, Job, Source, Trouble};
+use crate::{Job, Source, Trouble};
 use file_facts::Facts;
 use files::Inputs;
-use std::io::Input;
-use std::rt::{Env, Files};
+use std::io::{Input, Print};
+use std::os::fd::AsFd;
+use std::random::RandomSource;
+use std::rt::{Clock, Env, Files};
 
 impl<'a> Source<'a> {
     // Reads the file that word k names, and what is known of it.
@@ -52,7 +54,11 @@ impl Job {
     }
 
     // Writes an output to the file that is named for it, where one is.
-    pub fn write_output(self, rt: &impl Host, bytes: &[u8]) -> Result<(), Trouble> {
+    pub fn write_output(
+        self,
+        rt: &(impl Files<File: AsFd> + Env + Print + Clock + RandomSource),
+        bytes: &[u8],
+    ) -> Result<(), Trouble> {
         let Some(k) = self.output else {
             return Ok(());
         };

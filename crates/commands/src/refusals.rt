@@ -1,4 +1,8 @@
 // What is told of a call that is refused, and of trouble with a file. What answers a status answers the exit status.
+ghost use Rattle.std.specs.Prelude.{◌≡◌};
+ghost use Rattle.outcomes.specs.Outcomes.{place_in_cells};
+ghost use Rattle.replies.specs.Answers.{number_of};
+
 use crate::telling::Page;
 use crate::{Failure, Source, Trouble};
 use command_line::Line;
@@ -81,7 +85,9 @@ impl<R: Print> Page<'_, R> {
 }
 
 // The place of a refusal is one among the cells handed in.
-pub fn is_in_cells(refusal: Refusal) -> bool {
+pub fn is_in_cells(refusal: Refusal) -> bool
+    ensures { result ≡ place_in_cells (number_of refusal.why) }
+{
     outcomes::place_in_cells(refusal.why.number())
 }
 
@@ -107,7 +113,7 @@ impl<R: Env + Print> Page<'_, R> {
             self.refusal(refusal);
             writeln!(self);
         }
-        Status::Refused
+        refusal.into()
     }
 
     // What became of a subcommand that took no file of cells or bits.
@@ -137,7 +143,7 @@ impl<R: Env + Print> Page<'_, R> {
             writeln!(self);
             self.besides(refusal, source);
         }
-        Status::Refused
+        refusal.into()
     }
 }
 

@@ -12,7 +12,7 @@ use std::rt::Env;
 // The bytes of the page.
 const PAGE: usize = 8192;
 
-// Room for a name of 4,096 bytes as it is printed, and within the quotes of JSON.
+// Room for a name of 4,096 bytes as it is printed.
 pub const PRINTED: usize = 16384;
 
 // A page: where it is told, how many of its bytes are filled, and whether all before could be written.
@@ -79,7 +79,7 @@ impl<'a, R: Print> Page<'a, R> {
         let _ = Write::write(self, text);
     }
 
-    // A number at the right end of a column. Like `figure`, kept for what is still to be told.
+    // A number at the right end of a column. No subcommand tells one yet, nor a figure.
     pub fn column(&mut self, n: usize, width: usize) {
         write!(self, "{n:>width$}");
     }

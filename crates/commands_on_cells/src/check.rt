@@ -42,7 +42,7 @@ impl Tally {
             Err(Failure::Refused(refusal)) => {
                 let count = &mut self.refused[refusal.why.number() as usize];
                 *count = count.saturating_add(1);
-                Status::Refused
+                refusal.into()
             }
             Err(Failure::Trouble(_)) => {
                 self.not_read = self.not_read.saturating_add(1);

@@ -102,6 +102,6 @@ impl<'a> Streams<'a> {
                 page.besides(refusal, self.second);
             }
         }
-        Status::Refused
+        refusal.into()
     }
 }

@@ -1,5 +1,5 @@
 // The subcommands on files of cells: read, check, turn, join, index, find; and write, on a file of bits. Each
-// answers the exit status.
+// answers the exit status, or why it is not carried out.
 #![tactic(auto)]
 
 use command_line::Command;

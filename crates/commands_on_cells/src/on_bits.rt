@@ -24,8 +24,8 @@ pub fn write<R: Host>(page: &mut Page<R>, job: Job) -> Outcome {
 }
 
 // How many bits a file of so many bytes holds: the most that are whole messages, if less than a byte is
-// left over; else all its bits, which are then no whole messages. A longer file than any message holds
-// more than are ever written.
+// left over; else all its bits, which are then no whole messages. A file that is longer than
+// the messages of 256 words holds more bits than are ever written.
 fn bits_in(p: Profile, table: &[u64], bytes: usize) -> usize {
     if BYTES < bytes {
         return usize::MAX;
@@ -81,5 +81,5 @@ fn refused<R: Env + Print>(
         writeln!(page);
         page.length(refusal, source, BYTES, "bytes");
     }
-    Status::Refused
+    refusal.into()
 }

@@ -1,5 +1,5 @@
 // The subcommands on profiles: table, rate, profiles, list, and the word of an index. Each answers the exit
-// status.
+// status, or why it is not carried out.
 #![tactic(auto)]
 
 use catalogue::{Rate, Row};
@@ -20,7 +20,7 @@ pub fn table<R: Host>(page: &mut Page<R>, job: Job) -> Outcome {
     }
     let mut limbs = [0u64; LIMBS];
     let (job, table) = job.with_table(page.rt, &mut limbs)?;
-    belongs(job.asked.profile, table)?;
+    check_belongs(job.asked.profile, table)?;
     if job.line.json {
         page.begin_done();
         page.end_done(job);
@@ -31,9 +31,9 @@ pub fn table<R: Host>(page: &mut Page<R>, job: Job) -> Outcome {
     Ok(Status::Done)
 }
 
-// Whether a table belongs to a profile.
+// Refused unless a table belongs to a profile.
 #[tactic(auto, using(replies::specs::ReplyLaws::profile_in_range))]
-fn belongs(p: Profile, table: &[u64]) -> Result<(), Refusal> {
+fn check_belongs(p: Profile, table: &[u64]) -> Result<(), Refusal> {
     replies::check_profile(p)?;
     tables::check_table(p, table)
 }

@@ -1,5 +1,5 @@
 // Names beside an output: the folder that it lies in, and what stands in that folder while it is written.
-ghost use Rattle.std.specs.Prelude.{◌≤◌, length};
+ghost use Rattle.std.specs.Prelude.{◌≡◌, ◌≤◌, length, take};
 
 use crate::buffers::Buffer;
 use std::fmt::Write;
@@ -13,7 +13,8 @@ pub type Name = Buffer<64>;
 
 // The folder that a name lies in, with the slash; nothing where it has none.
 pub fn folder(name: &[u8]) -> &[u8]
-    ensures { length result.now ≤ length name.now }
+    ensures short { length result.now ≤ length name.now }
+    ensures front { result.now ≡ take (length result.now) name.now }
 {
     match name.iter().rposition(|b| *b == b'/') {
         Some(slash) => &name[..slash + 1],

@@ -4,7 +4,7 @@ use commands::Page;
 use statuses::Status;
 use std::io::Print;
 
-// The subcommands, in the order of the text: those on streams, and the others.
+// The subcommands, in the order of the text.
 const COMMANDS: [Command; 13] = [
     Command::Read,
     Command::Check,

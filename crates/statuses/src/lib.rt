@@ -2,7 +2,7 @@
 #![tactic(auto)]
 
 ghost use Rattle.std.specs.Prelude.{◌≡◌, max};
-ghost use Rattle.replies.specs.Answers.{reply_of};
+ghost use Rattle.replies.specs.Answers.{refusal_reply};
 ghost use Rattle.std.specs.Process.{exit_status};
 ghost use Rattle.statuses.specs.Statuses.{status_of, status_told, code_of};
 
@@ -48,12 +48,11 @@ impl From<Status> for ExitCode {
     }
 }
 
-// The status that a call's answer means.
-pub fn of<T>(answer: &Result<T, Refusal>) -> Status
-    ensures { code_of result ≡ status_of (reply_of answer.now) }
-{
-    match answer {
-        Ok(_) => Status::Done,
-        Err(_) => Status::Refused,
+// The status that a refusal means; a call that is not refused is done.
+impl From<Refusal> for Status {
+    ghost from_gives = { λ refusal status. code_of status ≡ status_of (refusal_reply refusal) };
+
+    fn from(_refusal: Refusal) -> Status {
+        Status::Refused
     }
 }
