@@ -48,7 +48,7 @@ def print_chosen(program):
         if numbers != NUMBERS[call]:
             sys.exit(f"{call}: the cases give {sorted(numbers)}, and not {sorted(NUMBERS[call])}")
     source = (CRATES / program / "src/main.rt").read_text()
-    room = int(re.search(r"let mut text = \[0u8; (\d+)\];", source)[1])
+    room = int(re.search(r"let mut text = \[0; (\d+)\];", source)[1])
     longest = max(map(len, script)) + 1
     if longest > room:
         sys.exit(f"a case has {longest} bytes, and {program} has room for {room}")
