@@ -1,8 +1,11 @@
 -- The largest s with 2^s at most n: there is one, and it is the place of the highest bit of the highest limb in use.
 use Rattle.std.specs.Prelude.{◌≡◌, List, [], ◌∷◌, ℕ, zero, suc, ◌+◌, ◌-◌, ◌*◌, ◌^◌, ◌≤◌, ◌<◌, get_or, take, drop}
-use Rattle.std.proofs.Common.{sym, le_antisymm, le_trans, lt_of_not-le, zero-add, add-suc, add_comm, mul_comm, mul-le-mul_left, sub-one, arith, pow_mono, length-take, get_or-take}
+use Rattle.std.proofs.Common.{sym, le_antisymm, le_trans, lt_of_not-le, zero-add, add-suc, add_comm, mul-suc, mul_comm, mul-le-mul_left, sub-one, arith, pow_mono, length-take, get_or-take}
 use Rattle.std.proofs.Math.Nat.{suc_inj}
 use Rattle.std.proofs.Math.Arith.{digits_lt}
+use Rattle.std.specs.Int.Count.{count_leading_zeros}
+use lib.Count.{leading_of_zero}
+use Rattle.std.proofs.lemmas.Nat.{leading_top}
 use Rattle.limbs.specs.Limbs.{base, number_at, used, used_with, AllLimbs}
 use Rattle.limbs.specs.UsedLaws.{used-length, number_at_used, number_at_below_used}
 use Rattle.limbs.specs.ValueLaws.{number_at_more, number_at_below, power_above}
@@ -41,21 +44,52 @@ largest_by_limb n l b all top =
       most = rw (← add-suc, power_above 64 n (suc b), split, mul_comm (base ^ n) (2 ^ suc b), mul_comm (base ^ n), add_comm) most;
     }
 
--- The k limbs in use of a number of n limbs that is not 0, and its highest bit, by that of the highest limb in use.
+-- The k limbs in use of a number of n limbs that is not 0, and its highest bit, by the zeros that lead in the highest limb in use.
 pub record HighestBit (n : ℕ) (l : List ℕ) (k : ℕ) : Type 0 where
   pub some : 0 < k
   pub inside : k ≤ n
-  pub top : 0 < get_or l (k - 1) 0
-  pub largest : (b : ℕ) → Largest (get_or l (k - 1) 0) b → Largest (number_at n l 0) (64 * (k - 1) + b)
+  pub zeros : count_leading_zeros 64 (get_or l (k - 1) 0) < 64
+  pub largest : Largest (number_at n l 0) (64 * k - 1 - count_leading_zeros 64 (get_or l (k - 1) 0))
 
 pub highest_bit : (n : ℕ) (l : List ℕ) → AllLimbs l → 0 < number_at n l 0 → (k : ℕ) → k ≡ used (take n (drop 0 l)) → HighestBit n l k
 highest_bit n l all some zero e = let below = rw (← e) at (number_at_below_used n l 0 all) in absurd (omega arith)
 highest_bit n l all some (suc k) e =
     let inside : suc k ≤ n = omega (arith, used-length (take n (drop 0 l)), length-take n (drop 0 l)) in
+    let top : 0 < get_or l k 0 = rw get_or-take at (highest_in_use (take n (drop 0 l)) k (sym e)) in
+    let bit = leading_top 64 (get_or l k 0) top (all k) in
+    let whole = bit.1 in
+    let place : 64 * suc k - 1 - count_leading_zeros 64 (get_or l k 0) ≡ 64 * k + bit.0 = rw mul-suc (omega arith) in
     let same : number_at (suc k) l 0 ≡ number_at n l 0 = rw (← e) at (number_at_used n l 0) in
     record {
       some = omega arith;
       inside = inside;
-      top = rw (sub-one (suc k)) (rw get_or-take at (highest_in_use (take n (drop 0 l)) k (sym e)));
-      largest = λ b top. rw (sub-one (suc k), ← same) (largest_by_limb k l b all (rw (sub-one (suc k)) at top));
+      zeros = rw (sub-one (suc k)) (omega arith);
+      largest = rw (sub-one (suc k), place, ← same) (largest_by_limb k l bit.0 all (record { fits = bit.2; most = bit.3 }));
+    }
+
+-- A limb with fewer than 64 leading zeros is not 0.
+some_bit : (limb : ℕ) → count_leading_zeros 64 limb < 64 → 0 < limb
+some_bit zero few = absurd (omega (arith, leading_of_zero 64))
+some_bit (suc limb) few = omega arith
+
+-- The same by the highest limb in use: it is not 0, and its own highest bit is the number's, 64 places up for each limb below it.
+pub record TopLimb (n : ℕ) (l : List ℕ) (k : ℕ) : Type 0 where
+  pub some : 0 < k
+  pub inside : k ≤ n
+  pub top : 0 < get_or l (k - 1) 0
+  pub largest : (b : ℕ) → Largest (get_or l (k - 1) 0) b → Largest (number_at n l 0) (64 * (k - 1) + b)
+
+pub top_limb : (n : ℕ) (l : List ℕ) → AllLimbs l → 0 < number_at n l 0 → (k : ℕ) → k ≡ used (take n (drop 0 l)) → TopLimb n l k
+top_limb n l all some k e =
+    let highest = highest_bit n l all some k e in
+    let top = some_bit (get_or l (k - 1) 0) highest.zeros in
+    let bit = leading_top 64 (get_or l (k - 1) 0) top (all (k - 1)) in
+    record {
+      some = highest.some;
+      inside = highest.inside;
+      top = top;
+      largest = λ b fits.
+          let same : b ≡ bit.0 = one_largest fits (record { fits = bit.2; most = bit.3 }) in
+          let place : 64 * k - 1 - count_leading_zeros 64 (get_or l (k - 1) 0) ≡ 64 * (k - 1) + b = omega (arith, bit.1, highest.some) in
+          rw place at highest.largest;
     }

@@ -26,7 +26,7 @@ pub fn check_message(p: Profile) -> Result<(), Refusal>
 
 // The place of the highest bit of a number of ten limbs that is not 0: the largest s with 2^s at
 // most the number.
-#[tactic(auto, using(crate::specs::HighestBit::highest_bit))]
+#[tactic(auto, using(crate::specs::HighestBit::top_limb))]
 fn highest_bit(number: &[u64]) -> usize
     requires { (10 ≤ length number.now) × (0 < number_at 10 number.now 0) }
     ensures { Largest (number_at 10 number.now 0) result }

@@ -1,2 +1,0 @@
--- Laws that no contract cites.
-pub mod KeptHighestBit
