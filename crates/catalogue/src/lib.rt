@@ -83,7 +83,7 @@ pub const ROWS: usize = 40;
 pub fn published_profile(row: usize) -> Result<Row, Refusal>
     ensures { published_of result ≡ publishing row }
 {
-    let Some(&(q, x, m, s)) = rows::PUBLISHED.get(row) else {
+    let Some(&(q, x, m, s)) = rows::PUBLISHED[..ROWS].get(row) else {
         return Err(Why::NoSuch.at(0));
     };
     Ok(Row { q, x, m, s })
