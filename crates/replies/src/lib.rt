@@ -3,7 +3,7 @@
 #![tactic(auto)]
 
 ghost use Rattle.std.specs.Prelude.{◌≡◌, ◌+◌, ◌^◌, ◌<◌};
-ghost use Rattle.replies.specs.Replies.{profile_of, refused_if, moved_by, lowest, outside_refusal, levels_refusal, length_refusal, reach_refusal, profile_refusal, room_refusal};
+ghost use Rattle.replies.specs.Replies.{profile_of, done, refused, refused_if, moved_by, lowest, outside_refusal, levels_refusal, length_refusal, reach_refusal, profile_refusal, room_refusal};
 ghost use Rattle.replies.specs.Answers.{number_of, refusal_reply, reply_of, written_of};
 
 // A profile: q levels, word length m, reach x. Any numbers may be handed in; what is out of range is
@@ -69,6 +69,36 @@ pub struct Reply {
     pub place: usize,
 }
 
+impl Reply {
+    // A reply on a part of the input that starts so many places in, as a reply on the whole.
+    #[tactic(auto, unfolding(crate::specs::Replies::moved_by))]
+    pub fn moved_by(self, places: usize) -> Reply
+        requires { self.place + places < 2 ^ 64 }
+        ensures { result ≡ moved_by places self }
+    {
+        if self.number == 0 {
+            return done();
+        }
+        refused_at(self.number, self.place + places)
+    }
+
+    // Of two replies on an input, the second on what stands further on: the lower number, and of one number the first
+    // place.
+    #[tactic(auto, unfolding(crate::specs::Replies::lowest))]
+    pub fn lowest(self, behind: Reply) -> Reply
+        ensures { result ≡ lowest self behind }
+    {
+        if self.number == 0 {
+            return behind;
+        }
+        if behind.number == 0 || self.number <= behind.number {
+            self
+        } else {
+            behind
+        }
+    }
+}
+
 // What a call that writes answers to C: its reply, and how many cells, bits or limbs it wrote.
 #[repr(C)]
 #[derive(Clone, Copy)]
@@ -81,10 +111,7 @@ impl From<Refusal> for Reply {
     ghost from_gives = { λ refusal reply. reply ≡ refusal_reply refusal };
 
     fn from(refusal: Refusal) -> Reply {
-        Reply {
-            number: refusal.why.number(),
-            place: refusal.place,
-        }
+        refused_at(refusal.why.number(), refusal.place)
     }
 }
 
@@ -93,10 +120,7 @@ impl<T: Drop> From<Result<T, Refusal>> for Reply {
 
     fn from(answer: Result<T, Refusal>) -> Reply {
         match answer {
-            Ok(_) => Reply {
-                number: 0,
-                place: 0,
-            },
+            Ok(_) => done(),
             Err(refusal) => refusal.into(),
         }
     }
@@ -124,6 +148,27 @@ pub fn profile_of(q: usize, m: usize, x: usize) -> Profile
     ensures { result ≡ profile_of q m x }
 {
     Profile { q, m, x }
+}
+
+// Refused with a number at a place.
+pub fn refused_at(number: u8, place: usize) -> Reply
+    ensures { result ≡ refused number place }
+{
+    Reply { number, place }
+}
+
+// Done.
+pub fn done() -> Reply
+    ensures { result ≡ done }
+{
+    refused_at(0, 0)
+}
+
+// Refused with a number, at place 0, where a test holds; else done.
+pub fn refused_if(test: bool, number: u8) -> Reply
+    ensures { result ≡ refused_if test number }
+{
+    if test { refused_at(number, 0) } else { done() }
 }
 
 // Refused at place 0 where a test holds.
