@@ -2,7 +2,7 @@
 use crate::Job;
 use crate::telling::{PRINTED, Page};
 use command_line::Line;
-use replies::Refusal;
+use replies::{Refusal, Reply};
 use statuses::Status;
 use std::fmt::Display;
 use std::io::Print;
@@ -56,17 +56,21 @@ impl<R: Env + Print> Page<'_, R> {
         write!(self, "\",\"status\":{}", status.code());
     }
 
-    // The beginning of the object of a call that is done: number 0, at place 0.
-    pub fn begin_done(&mut self) {
-        self.begin_object(Status::Done);
-        write!(self, ",\"number\":0,\"place\":0");
+    // The beginning of the object of a call: the status that its reply means, its number and its place.
+    fn begin_reply(&mut self, reply: Reply) {
+        self.begin_object(reply.into());
+        self.field("number", reply.number);
+        self.field("place", reply.place);
     }
 
-    // The beginning of the object of a call that is refused: its number, its place, and what it says.
+    // The beginning of the object of a call that is done.
+    pub fn begin_done(&mut self) {
+        self.begin_reply(replies::done());
+    }
+
+    // The beginning of the object of a call that is refused: its reply, and what it says.
     pub fn begin_refused(&mut self, refusal: Refusal) {
-        self.begin_object(refusal.into());
-        self.field("number", refusal.why.number());
-        self.field("place", refusal.place);
+        self.begin_reply(refusal.into());
         self.field("told", "\"");
         self.refusal(refusal);
         write!(self, "\"");
