@@ -158,7 +158,8 @@ pub fn profiles<R: Env + Print>(page: &mut Page<R>, job: Job) -> Outcome {
 
 // Tells what is published in a row.
 fn published<R: Env + Print>(page: &mut Page<R>, as_json: bool, row: usize) -> Outcome {
-    let Row { q, m, x, s } = catalogue::published_profile(row)?;
+    let found = catalogue::published_profile(row);
+    let Row { q, m, x, s } = found?;
     if as_json {
         page.begin_done();
         page.field("row", row);
@@ -170,5 +171,5 @@ fn published<R: Env + Print>(page: &mut Page<R>, as_json: bool, row: usize) -> O
     } else {
         writeln!(page, "row {row}: q {q}, m {m}, x {x}, s {s}");
     }
-    Ok(Status::Done)
+    Ok(found.into())
 }
