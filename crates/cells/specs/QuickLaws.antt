@@ -24,16 +24,6 @@ pub flag_more : (hit : Bool) {test : ℕ → Bool} {place end : ℕ} → (hit �
 flag_more false before none = nowhere_more (before refl) none
 flag_more true before none = absurd (true≢false none)
 
--- One place more of a pass, the cells of which are seen as a run from the first top to the last.
-pub tops_more : (hit : Bool) (top k place : ℕ) (cells : List ℕ) {first next last : ℕ} → first ≡ get_or cells (place + 0) 0 → next ≡ get_or cells (place + 1) 0
-    → last ≡ get_or cells (place + k) 0 → (hit ≡ false → Nowhere (tops_at top k cells) k (k + place))
-    → (hit || ((eqb first top && not (eqb next top)) && eqb last top)) ≡ false → Nowhere (tops_at top k cells) k (k + place + 1)
-tops_more hit top k place cells e f g before none =
-    let back : k + place - k ≡ place + 0 = omega arith in
-    let there : k + place ≡ place + k = omega arith in
-    let next : k + place - k + 1 ≡ place + 1 = omega arith in
-    flag_more hit before (rw (next, back, there, ← e, ← f, ← g) none)
-
 -- No pass for the distances up to x + 1 sees anything.
 abbrev pub NonePasses : ℕ → ℕ → List ℕ → Type 0
 NonePasses top x cells = (k : ℕ) → 2 ≤ k → k < x + 2 → Nowhere (tops_at top k cells) k (length cells)

@@ -1,8 +1,10 @@
 -- Laws of the scan from a top: what the cells behind it say of a pattern that begins there.
-use Rattle.std.specs.Prelude.{◌≡◌, refl, Bool, true, false, ◌&&◌, Some, None, List, ◌∷◌, ℕ, zero, suc, ◌≤◌, ◌<◌, ltb, leb, eqb, length, get_or, position}
-use Rattle.std.proofs.Common.{sym, subst, le_antisymm, arith, ltb-true, ltb-false, leb-true, leb-false, eqb-true}
+use Rattle.std.specs.Prelude.{◌≡◌, refl, Bool, true, false, ◌&&◌, Some, None, List, [], ◌∷◌, ℕ, zero, suc, ◌≤◌, ◌<◌, ltb, leb, eqb, length, get_or, take, position}
+use Rattle.std.proofs.Common.{sym, ◌∙◌, subst, le_antisymm, arith, ltb-true, ltb-false, leb-true, leb-false, eqb-true}
 use Rattle.std.proofs.lemmas.Bool.{eqb-false}
+use Rattle.std.proofs.lemmas.List.{take_all}
 use Rattle.std.proofs.lemmas.List.Quantifiers.{position-Some}
+use Rattle.patterns.specs.Pattern.{Patterns, middle_then_top, pattern_up_to}
 use Rattle.code.specs.Code.{below_top}
 use Rattle.cells.specs.Finding.{pattern_at}
 use Rattle.cells.specs.BeginsLaws.{LowBetween, Begins, begins_pattern, no_pattern}
@@ -68,3 +70,29 @@ module _ (top x first : ℕ) (behind : List ℕ) where
         go true h false i u j = sym (no_pattern top x (first ∷ behind) 0 (λ b. omega (arith, closes_there b, b.within, leb-false low x i)))
         go true h true i false j =
             sym (no_pattern top x (first ∷ behind) 0 (λ b. eqb-false (get_or behind low 0) top j (subst (λ (n : ℕ). get_or (first ∷ behind) n 0 ≡ top) (sym (closes_there b)) b.last)))
+
+-- What stands further on than a pattern reaches does not say whether one begins.
+middle_near : (S : Patterns) (r n : ℕ) (w : List ℕ) → r < n → middle_then_top S r (take n w) ≡ middle_then_top S r w
+middle_near S r zero w h = absurd (omega arith)
+middle_near S r (suc n) [] h = refl
+middle_near S zero (suc n) (c ∷ w) h = refl
+middle_near S (suc r) (suc n) (c ∷ w) h = rw (middle_near S r n w (omega arith)) refl
+
+up_to_near : (S : Patterns) (first y n : ℕ) (w : List ℕ) → y < n → pattern_up_to S y (first ∷ take n w) ≡ pattern_up_to S y (first ∷ w)
+up_to_near S first zero n w h = refl
+up_to_near S first (suc y) n w h = rw (up_to_near S first y n w (omega arith), middle_near S (suc y) n w h) refl
+
+module _ (top x first n : ℕ) (behind : List ℕ) (reached : n < length behind → x < n) where
+  near : pattern_at (below_top top x) (first ∷ take n behind) 0 ≡ pattern_at (below_top top x) (first ∷ behind) 0
+  near = go (ltb n (length behind)) refl
+    where
+      go : (b : Bool) → ltb n (length behind) ≡ b → pattern_at (below_top top x) (first ∷ take n behind) 0 ≡ pattern_at (below_top top x) (first ∷ behind) 0
+      go true e = up_to_near (below_top top x) first x n behind (reached (ltb-true n (length behind) e))
+      go false e = rw (take_all n behind (ltb-false n (length behind) e)) refl
+
+  pub none_near : position (leb top) (take n behind) ≡ None → false ≡ pattern_at (below_top top x) (first ∷ behind) 0
+  none_near e = none_closes top x first (take n behind) e ∙ near
+
+  pub first_near : (low : ℕ) → position (leb top) (take n behind) ≡ Some low → first ≡ top
+      → ((ltb 0 low && leb low x) && eqb (get_or (take n behind) low 0) top) ≡ pattern_at (below_top top x) (first ∷ behind) 0
+  first_near low e begins = first_closes top x first (take n behind) low e begins ∙ near

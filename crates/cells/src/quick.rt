@@ -18,12 +18,13 @@ pub fn some_cell(level: u8, cells: &[u8]) -> bool
 
 // Some top has a cell that is no top after it and a top k places on: false only where none has.
 fn some_tops(top: u8, k: usize, cells: &[u8]) -> bool
-    requires { (2 ≤ k) × (k ≤ 9) }
+    requires { 2 ≤ k }
     ensures { result ≡ false → Nowhere (tops_at top k cells.now) k (length cells.now) }
 {
     let mut hit = false;
-    for run in cells.windows(k + 1) {
-        hit |= (run[0] == top) & (run[1] != top) & (run[k] == top);
+    // By places: over windows a word of 100 cells takes twice as many instructions at x = 8.
+    for i in k..cells.len() {
+        hit |= (cells[i - k] == top) & (cells[i - k + 1] != top) & (cells[i] == top);
     }
     hit
 }

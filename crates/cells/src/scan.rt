@@ -25,9 +25,9 @@ pub fn first_cell(q: u8, cells: &[u8]) -> Result<(), Refusal>
     }
 }
 
-// A run of cells begins with a forbidden pattern: with a top, and the first cell behind it that is not below top is
-// a top too, with 1 to x cells between them.
-#[tactic(auto, using(crate::specs::ScanLaws::no_cell_begins, crate::specs::ScanLaws::begins_with_top, crate::specs::ScanLaws::none_closes, crate::specs::ScanLaws::first_closes))]
+// A run of cells begins with a forbidden pattern: with a top, and the first cell behind it that is not below top, sought
+// no further than a pattern reaches, is a top too, with 1 to x cells between them.
+#[tactic(auto, using(crate::specs::ScanLaws::no_cell_begins, crate::specs::ScanLaws::begins_with_top, crate::specs::ScanLaws::none_near, crate::specs::ScanLaws::first_near))]
 fn begins(top: u8, x: usize, run: &[u8]) -> bool
     ensures { result ≡ pattern_at (below_top top x) run.now 0 }
 {
@@ -37,8 +37,9 @@ fn begins(top: u8, x: usize, run: &[u8]) -> bool
     if *first != top {
         return false;
     }
-    match first_reaching(top, behind) {
-        Some(low) => (0 < low) & (low <= x) & (behind[low] == top),
+    let near = &behind[..behind.len().min(x.saturating_add(1))];
+    match first_reaching(top, near) {
+        Some(low) => (0 < low) & (low <= x) & (near[low] == top),
         None => false,
     }
 }

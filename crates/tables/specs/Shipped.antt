@@ -1,5 +1,5 @@
 -- The shipped table, of q = 4 and x = 1: 129 rows of four limbs. Each is held to the recursion, once over all rows.
-use Rattle.std.specs.Prelude.{◌≡◌, refl, Bool, true, false, cond, ◌||◌, List, [], ◌∷◌, ℕ, zero, suc, ◌+◌, ◌-◌, ◌*◌, ◌≤◌, ltb, get_or, length, take, drop, ◌++◌}
+use Rattle.std.specs.Prelude.{◌≡◌, refl, Bool, true, false, cond, ◌||◌, List, [], ◌∷◌, ℕ, zero, suc, ◌+◌, ◌-◌, ◌*◌, ◌≤◌, ltb, get_or}
 use Rattle.std.proofs.Common.{ap, ◌∙◌, zero-le, zero-add, suc-add, arith, lit<}
 use Rattle.limbs.specs.Limbs.{limbs_of}
 use Rattle.listing.specs.Every.{every}
@@ -180,27 +180,6 @@ shipped_row_lem i l =
     let count : get_or (counts_down_from 4 1 128) (128 - i) 0 ≡ N 4 1 i =
     ap (λ (m : ℕ). get_or (counts_down_from 4 1 m) (128 - i) 0) back ∙ counts_before 4 1 i (128 - i) ∙ recursion_counts 4 1 i (lit< tt) in
     same_equal _ _ (each_level (row_passes (counts_down_from 4 1 128)) 0 129 i all_rows_pass zero-le (omega arith)) ∙ ap (limbs_of 10) count
-
--- Four limbs cut out of the constant are the four of the row.
-four_limbs : (at : ℕ) (l : List ℕ) → at + 4 ≤ length l
-    → take 4 (drop at l) ≡ get_or l at 0 ∷ get_or l (at + 1) 0 ∷ get_or l (at + 2) 0 ∷ get_or l (at + 3) 0 ∷ []
-four_limbs zero (a ∷ b ∷ c ∷ d ∷ more) long = refl
-four_limbs zero (a ∷ b ∷ c ∷ []) long = absurd (omega arith)
-four_limbs zero (a ∷ b ∷ []) long = absurd (omega arith)
-four_limbs zero (a ∷ []) long = absurd (omega arith)
-four_limbs zero [] long = absurd (omega arith)
-four_limbs (suc at) (x ∷ l) long = rw (suc-add, suc-add, suc-add) (four_limbs at l (omega arith))
-four_limbs (suc at) [] long = absurd (omega arith)
-
-all_limbs : length shipped_limbs ≡ 516
-unfolding shipped_limbs
-all_limbs = refl
-
-pub row_cut : (i : ℕ) {part : List ℕ} → i ≤ 128 → part ≡ take (4 * i + 4 - 4 * i) (drop (4 * i) shipped_limbs)
-    → part ++ (0 ∷ 0 ∷ 0 ∷ 0 ∷ 0 ∷ 0 ∷ []) ≡ shipped_row i
-row_cut i l e =
-    let four : 4 * i + 4 - 4 * i ≡ 4 = omega arith in
-    rw (e, four, four_limbs (4 * i) shipped_limbs (rw all_limbs (omega arith)))
 
 -- And its copy is the row of the built table.
 pub row_copied : (i : ℕ) (lent : List ℕ) {after : List ℕ} → i ≤ 128 → after ≡ with_row i (shipped_row i) lent
