@@ -1,8 +1,7 @@
 -- Laws that stood in specs/RowLaws, which no proof rests on now.
-use Rattle.std.specs.Prelude.{◌≡◌, List, ◌++◌, ℕ, ◌+◌, ◌-◌, ◌*◌, ◌≤◌, ◌<◌, length, get_or, set, drop}
+use Rattle.std.specs.Prelude.{◌≡◌, List, ◌++◌, ℕ, ◌+◌, ◌-◌, ◌*◌, ◌≤◌, ◌<◌, length, drop}
 use Rattle.std.proofs.Math.Path.{refl}
-use Rattle.std.proofs.Common.{sym, ap, ◌∙◌, le_refl, le_antisymm, add-one, arith, drop_at, drop-drop}
-use Rattle.std.proofs.Math.Seq.{paste, paste-suc}
+use Rattle.std.proofs.Common.{sym, ap, ◌∙◌, le_refl, le_antisymm, arith, drop_at, drop-drop}
 use Rattle.limbs.specs.Limbs.{limbs_of}
 use Rattle.replies.specs.declared.Profile.{Profile}
 use Rattle.replies.specs.Ranges.{InRange}
@@ -12,11 +11,6 @@ use Rattle.tables.specs.Counting.{one}
 use Rattle.tables.specs.Rows.{with_row, front_rows}
 use Rattle.tables.specs.CountingLaws.{one_word}
 use Rattle.tables.specs.RowLaws.{length_rows, front_none, front_next}
-
--- One limb more of a row.
-pub stored : (before : List ℕ) (at : ℕ) (number : List ℕ) (k : ℕ) {out : List ℕ} → out ≡ paste before at number k
-    → at + k < length before → k < length number → set out (at + k) (get_or number k 0) ≡ paste before at number (k + 1)
-stored before at number k o inside some = rw (o, add-one) (paste-suc before at number k 0 inside some)
 
 -- Rows written again from the front are the same.
 pub front_again : (p : Profile) (k n : ℕ) (lent : List ℕ) → k ≤ n → front_rows p n (front_rows p k lent) ≡ front_rows p n lent

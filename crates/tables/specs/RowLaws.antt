@@ -1,7 +1,8 @@
 -- Laws of rows: what writing one more does, and that rows written from the front belong.
-use Rattle.std.specs.Prelude.{◌≡◌, List, ◌++◌, ℕ, zero, suc, ◌+◌, ◌*◌, ◌≤◌, ◌<◌, length, take, drop}
+use Rattle.std.specs.Prelude.{◌≡◌, List, ◌++◌, ℕ, zero, suc, ◌+◌, ◌*◌, ◌≤◌, ◌<◌, length, get_or, set, take, drop}
 use Rattle.std.proofs.Math.Path.{refl}
 use Rattle.std.proofs.Common.{sym, ap, ◌∙◌, append_assoc, ⊎_elim, eq-or-lt_of_le, mul-suc, le_refl, le_of_eq, add-one, arith, length-append, take_all, take_at, drop_at, drop-drop}
+use Rattle.std.proofs.Math.Seq.{paste, paste-suc}
 use Rattle.limbs.specs.Limbs.{value, limbs_of, number_at}
 use Rattle.limbs.specs.ValueLaws.{length-limbs_of, value-limbs_of_below}
 use Rattle.replies.specs.declared.Profile.{Profile}
@@ -11,6 +12,11 @@ use Rattle.tables.specs.Tables.{table_of, Belongs, rows_below}
 use Rattle.tables.specs.Counting.{one}
 use Rattle.tables.specs.Rows.{with_row, front_rows}
 use Rattle.tables.specs.CountingLaws.{one_word, count_in_ten}
+
+-- One limb more of a row.
+pub stored : (before : List ℕ) (at : ℕ) (number : List ℕ) (k : ℕ) {out : List ℕ} → out ≡ paste before at number k
+    → at + k < length before → k < length number → set out (at + k) (get_or number k 0) ≡ paste before at number (k + 1)
+stored before at number k o inside some = rw (o, add-one) (paste-suc before at number k 0 inside some)
 
 -- Ten limbs a row.
 pub length_rows : (p : Profile) (n : ℕ) → length (rows_below p n) ≡ 10 * n
