@@ -26,6 +26,16 @@ fn joined_length(p: Profile, first: &[u8], second: &[u8]) -> usize
     first.len() + bridge + second.len()
 }
 
+// Copies cells over as many. Cell by cell, for with `copy_from_slice` the archive would need memmove from outside.
+fn copy(from: &[u8], to: &mut [u8])
+    requires { length from.now ≡ length to.old }
+    ensures { to.new ≡ from.now }
+{
+    for i in 0..from.len() {
+        to[i] = from[i];
+    }
+}
+
 // Writes two streams joined to the front of `out`, and says how many cells they have.
 fn write_joined(p: Profile, first: &[u8], second: &[u8], out: &mut [u8]) -> usize
     requires { InRange p × (length (joined (patterns_of p) first.now second.now) ≤ length out.old) }
@@ -35,8 +45,8 @@ fn write_joined(p: Profile, first: &[u8], second: &[u8], out: &mut [u8]) -> usiz
     let at = first.len();
     let count = joined_length(p, first, second);
     let behind = count - second.len();
-    out[..at].copy_from_slice(first);
-    out[behind..count].copy_from_slice(second);
+    copy(first, &mut out[..at]);
+    copy(second, &mut out[behind..count]);
     if at < behind {
         streams::write_bridge(p, out, at);
     }

@@ -7,7 +7,7 @@ pub returns-then-at-behind : goal.returns-then-at-behind
 returns-then-at-behind c =
     let a = c.args in
     let same = c.joined_length-count.ensures.value in
-    let bridge = with_bridge (patterns_of a.p) a.first.now a.second.now a.out.now same c.copy_from_slice.ensures.after c.copy_from_slice-2.ensures.after
+    let bridge = with_bridge (patterns_of a.p) a.first.now a.second.now a.out.now same c.copy.ensures c.copy-2.ensures
     c.if-at-behind.true c.requires.1 c.write_bridge.ensures in
     record { value = same; out_after = bridge }
 
@@ -15,6 +15,6 @@ pub returns-else-at-behind : goal.returns-else-at-behind
 returns-else-at-behind c =
     let a = c.args in
     let same = c.joined_length-count.ensures.value in
-    let joined = without_bridge (patterns_of a.p) a.first.now a.second.now a.out.now same c.copy_from_slice.ensures.after c.copy_from_slice-2.ensures.after
+    let joined = without_bridge (patterns_of a.p) a.first.now a.second.now a.out.now same c.copy.ensures c.copy-2.ensures
     c.requires.0.reach.least c.if-at-behind.false in
     record { value = same; out_after = joined }
