@@ -102,6 +102,7 @@ fn check_bridge(p: Profile, part: &[u8]) -> Result<(), Refusal>
 }
 
 // Numbers 10, 11, 13 from a word on.
+#[inline(never)]
 #[tactic(auto, using(replies::specs::AnswerLaws::refusal_decides, replies::specs::AnswerLaws::passed_leaves, crate::specs::BridgeLaws::word_alone, crate::specs::FitLaws::goes_on, crate::specs::FitLaws::first_cells), unfolding(crate::specs::Streams::part_refusal))]
 fn check_part(p: Profile, part: &[u8]) -> Result<(), Refusal>
     requires { InRange p × (length part.now ≡ stream_length p (words_in p (length part.now))) }
@@ -134,12 +135,13 @@ pub fn check_parts<F: Fn(&[u8]) -> Result<(), Refusal>>(
     if part.is_empty() {
         return Ok(());
     }
-    let here = replies::moved_by(place, test(part));
     if part.len() <= p.m {
-        return here;
+        return replies::moved_by(place, test(part));
     }
     let next = p.m + p.x;
-    replies::lowest(here, check_parts(p, &part[next..], place + next, test))
+    // First, so that nothing that is found here stands in the frame of the recursion.
+    let behind = check_parts(p, &part[next..], place + next, test);
+    replies::lowest(replies::moved_by(place, test(part)), behind)
 }
 
 // Each bridge of a stream is right.
