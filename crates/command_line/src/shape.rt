@@ -101,10 +101,14 @@ impl Command {
     }
 }
 
-// The first option that stands there and is not taken.
-pub fn options(line: Line, command: Command) -> Result<(), Fault> {
+// The first option that stands there and is not taken. Where there is no subcommand, `--json` alone is.
+pub fn options(line: Line, command: Option<Command>) -> Result<(), Fault> {
     for flag in [Flag::Over, Flag::Table, Flag::Bits, Flag::Json] {
-        if line.has(flag) && !command.takes(flag) {
+        let taken = match command {
+            Some(command) => command.takes(flag),
+            None => flag == Flag::Json,
+        };
+        if line.has(flag) && !taken {
             return Err(Fault::NotTaken(flag));
         }
     }
@@ -139,7 +143,7 @@ pub fn words(rt: &impl Env, line: Line, command: Command, next: usize) -> Result
     if command.is_number_first() && next < line.count {
         crate::number(rt, line, next)?;
     }
-    if let Some(i) = crate::argument(rt, next.saturating_add(command.most(line))) {
+    if let Some(i) = line.argument(rt, next.saturating_add(command.most(line))) {
         return Err(Fault::TooMany(i));
     }
     if let Some(i) = line.bits {

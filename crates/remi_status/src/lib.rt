@@ -44,8 +44,11 @@ fn run<R: Host>(page: &mut Page<R>, line: Line) -> Status {
 
 // The subcommand that word k is.
 fn command<R: Env>(rt: &R, line: Line, k: usize) -> Result<Command, Fault> {
+    if let Some(command) = shape::command(rt, line, k) {
+        return Ok(command);
+    }
     let i = command_line::argument(rt, k).ok_or(Fault::NoSubcommand)?;
-    shape::command(rt, line, k).ok_or(Fault::OtherSubcommand(i))
+    Err(Fault::OtherSubcommand(i))
 }
 
 // Tells the use of the subcommand that word k is, or of the program where there is no such word.
@@ -59,7 +62,7 @@ fn help_asked<R: Env + Print>(page: &mut Page<R>, line: Line, k: usize) -> Resul
 // Runs a subcommand, if the options and the words are those that it takes.
 fn subcommand<R: Host>(page: &mut Page<R>, line: Line) -> Result<Status, Fault> {
     let command = command(page.rt, line, 0)?;
-    shape::options(line, command)?;
+    shape::options(line, Some(command))?;
     let named = command_line::asking(page.rt, line, command)?;
     shape::words(page.rt, line, command, named.next)?;
     if command == Command::Help {
