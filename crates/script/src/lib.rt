@@ -83,10 +83,13 @@ impl<'a> Case<'a> {
     }
 
     // Cells in runs: how many runs, and then for each its level and how many cells, as far as there is
-    // room.
+    // room. Runs that are not there have no cells, however many are claimed.
     pub fn runs<'c>(&mut self, cells: &'c mut [u8]) -> &'c [u8] {
         let mut filled = 0;
         for _ in 0..self.number() {
+            if self.bytes.as_slice().is_empty() {
+                break;
+            }
             let level = self.byte();
             let end = filled + self.count().min(cells.len() - filled);
             cells[filled..end].fill(level);
