@@ -101,7 +101,7 @@ fn check_bridge(p: Profile, part: &[u8]) -> Result<(), Refusal>
     }
 }
 
-// Numbers 10, 11, 13 from a word on.
+// Numbers 10, 11, 13 from a word on. What it holds is to stand in no frame of the recursion over words.
 #[inline(never)]
 #[tactic(auto, using(replies::specs::AnswerLaws::refusal_decides, replies::specs::AnswerLaws::passed_leaves, crate::specs::BridgeLaws::word_alone, crate::specs::FitLaws::goes_on, crate::specs::FitLaws::first_cells), unfolding(crate::specs::Streams::part_refusal))]
 fn check_part(p: Profile, part: &[u8]) -> Result<(), Refusal>
