@@ -29,7 +29,8 @@ fn digit(byte: &u8) -> Option<u64> {
 }
 
 impl<'a> Case<'a> {
-    fn new(text: &'a [u8]) -> Case<'a> {
+    // A case that is already read.
+    pub fn new(text: &'a [u8]) -> Case<'a> {
         Case { bytes: text.iter() }
     }
 

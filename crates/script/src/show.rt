@@ -1,5 +1,5 @@
 // Showing answers: numbers in decimal with a blank before each, and a line's end.
-use replies::{Refusal, Reply};
+use replies::{Reply, Written};
 
 // What a limb and a cell are before a call, so that it is seen where one was written.
 pub const MARKED_LIMB: u64 = 1000003;
@@ -41,17 +41,18 @@ pub fn digest<T: Copy + Into<u64>>(items: &[T]) {
     number(sum);
 }
 
-// What a call answers: the number and the place of a refusal, or 0 and 0.
-pub fn reply<T: Drop>(answer: Result<T, Refusal>) {
-    let reply = Reply::from(answer);
+// The number and the place of a reply, or of what a call answers.
+pub fn reply<R: Into<Reply>>(answer: R) {
+    let reply = answer.into();
     number(u64::from(reply.number));
     count(reply.place);
 }
 
 // What a call that writes answers: the reply, and how much it wrote.
-pub fn written(answer: Result<usize, Refusal>) {
-    reply(answer);
-    count(answer.unwrap_or(0));
+pub fn written<W: Into<Written>>(answer: W) {
+    let written = answer.into();
+    reply(written.reply);
+    count(written.count);
 }
 
 // The end of a line.
